@@ -1,0 +1,132 @@
+ghost use Rattle.std.specs.Prelude.{◌≡◌, ◌≤◌};
+ghost use Rattle.tl_io.specs.Faults.{Rose};
+
+use crate::failed::Failed;
+use crate::sink::Sink;
+use crate::source::Source;
+use std::io::{Read, Write};
+use std::marker::Model;
+
+/// Standard input, or another reader, as a source. It tells no bytes.
+#[derive(Drop)]
+pub struct InputSource<R> {
+    reader: R,
+    faults: u64,
+}
+
+impl<R> Model for InputSource<R> {
+    ghost use Rattle.std.specs.Prelude.{ℕ};
+
+    ghost Value = { ℕ };
+
+    ghost view = { λ source. source.faults };
+}
+
+impl<R: Read> InputSource<R> {
+    pub fn new(reader: R) -> InputSource<R>
+        ensures { result ≡ 0 }
+    {
+        InputSource { reader, faults: 0 }
+    }
+
+    /// Counts an error.
+    fn fail(&mut self) -> Failed
+        ensures rose { Rose self.old self.new }
+        ensures never_falls { self.old ≤ self.new }
+    {
+        self.faults = self.faults.saturating_add(1);
+        Failed
+    }
+}
+
+impl<R: Read> Source for InputSource<R> {
+    ghost use Rattle.std.specs.Prelude.{None};
+
+    ghost left = { λ _. None };
+
+    ghost faults = { λ faults. faults };
+
+    fn read(&mut self, buffer: &mut [u8]) -> Result<usize, Failed> {
+        match self.reader.read(buffer) {
+            Ok(count) => Ok(count),
+            Err(_) => Err(self.fail()),
+        }
+    }
+}
+
+/// Standard output, or another writer, as a sink. It tells no bytes.
+#[derive(Drop)]
+pub struct OutputSink<W> {
+    writer: W,
+    faults: u64,
+}
+
+impl<W> Model for OutputSink<W> {
+    ghost use Rattle.std.specs.Prelude.{ℕ};
+
+    ghost Value = { ℕ };
+
+    ghost view = { λ sink. sink.faults };
+}
+
+impl<W: Write> OutputSink<W> {
+    pub fn new(writer: W) -> OutputSink<W>
+        ensures { result ≡ 0 }
+    {
+        OutputSink { writer, faults: 0 }
+    }
+
+    /// Counts an error.
+    fn fail(&mut self) -> Failed
+        ensures rose { Rose self.old self.new }
+        ensures never_falls { self.old ≤ self.new }
+    {
+        self.faults = self.faults.saturating_add(1);
+        Failed
+    }
+}
+
+impl<W: Write> Sink for OutputSink<W> {
+    ghost use Rattle.std.specs.Prelude.{None};
+
+    ghost held = { λ _. None };
+
+    ghost faults = { λ faults. faults };
+
+    fn write(&mut self, piece: &[u8]) -> Result<usize, Failed> {
+        match self.writer.write(piece) {
+            Ok(0) if !piece.is_empty() => Err(self.fail()),
+            Ok(count) => Ok(count),
+            Err(_) => Err(self.fail()),
+        }
+    }
+}
+
+#[cfg(test)]
+mod tests {
+    use super::*;
+    use std::test::Fail;
+
+    #[test]
+    fn reads_what_the_reader_has(rt: HostRuntime) -> Result<(), Fail> {
+        let mut source = InputSource::new(b"ab".as_slice());
+        let mut buffer = [0; 4];
+        assert_eq!(rt; source.read(&mut buffer), Ok(2));
+        assert_eq!(rt; source.read(&mut buffer), Ok(0));
+        let mut input = InputSource::new(rt.reader());
+        assert_eq!(rt; input.read(&mut []), Ok(0));
+        Ok(())
+    }
+
+    #[test]
+    fn a_writer_that_takes_nothing_fails(rt: HostRuntime) -> Result<(), Fail> {
+        let mut room = [0; 1];
+        let mut sink = OutputSink::new(room.as_mut_slice());
+        assert_eq!(rt; sink.write(b"ab"), Ok(1));
+        assert_eq!(rt; sink.write(b"b"), Err(Failed));
+        assert_eq!(rt; sink.write(b""), Ok(0));
+        let mut output = OutputSink::new(std::io::writer(&rt));
+        assert_eq!(rt; output.write(b""), Ok(0));
+        Ok(())
+    }
+}

@@ -1,0 +1,86 @@
+ghost use Rattle.std.specs.Prelude.{◌≡◌, length};
+
+use crate::failed::Failed;
+use crate::sink::Sink;
+use crate::source::Source;
+use crate::unread::Unread;
+use std::marker::Model;
+use tl_base::Bytes;
+
+/// A source that tells its bytes and never fails.
+#[derive(Debug, Drop)]
+pub struct SteadySource {
+    unread: Unread,
+}
+
+impl Model for SteadySource {
+    ghost use Rattle.std.specs.Prelude.{ℕ, List};
+
+    ghost Value = { List ℕ };
+
+    ghost view = { λ source. source.unread };
+}
+
+impl SteadySource {
+    pub fn new(bytes: Bytes) -> SteadySource
+        ensures { result ≡ bytes }
+    {
+        SteadySource {
+            unread: Unread::new(bytes),
+        }
+    }
+}
+
+impl Source for SteadySource {
+    ghost use Rattle.std.specs.Prelude.{Some};
+
+    ghost left = { λ bytes. Some bytes };
+
+    ghost faults = { λ _. 0 };
+
+    fn read(&mut self, buffer: &mut [u8]) -> Result<usize, Failed> {
+        Ok(self.unread.take_front(buffer.len(), buffer))
+    }
+}
+
+/// A sink that takes every piece, keeps none and never fails.
+#[derive(Clone, Copy, Debug)]
+pub struct SteadySink;
+
+impl SteadySink {
+    pub fn new() -> SteadySink {
+        SteadySink
+    }
+}
+
+impl Sink for SteadySink {
+    ghost use Rattle.std.specs.Prelude.{None};
+
+    ghost held = { λ _. None };
+
+    ghost faults = { λ _. 0 };
+
+    fn write(&mut self, piece: &[u8]) -> Result<usize, Failed>
+        ensures { result ≡ Ok (length piece.now) }
+    {
+        Ok(piece.len())
+    }
+}
+
+#[cfg(test)]
+mod tests {
+    use super::*;
+    use std::test::Fail;
+
+    #[test]
+    fn gives_and_takes_as_much_as_fits(rt: HostRuntime) -> Result<(), Fail> {
+        let mut source = SteadySource::new(Bytes::from_slice(rt.alloc(), b"abc")?);
+        let mut buffer = [0; 2];
+        assert_eq!(rt; source.read(&mut buffer), Ok(2));
+        assert_eq!(rt; buffer.as_slice(), b"ab".as_slice());
+        assert_eq!(rt; source.read(&mut buffer), Ok(1));
+        assert_eq!(rt; source.read(&mut buffer), Ok(0));
+        assert_eq!(rt; SteadySink::new().write(b"abc"), Ok(3));
+        Ok(())
+    }
+}
