@@ -1,0 +1,7 @@
+pub mod Digits
+pub mod EscapedOn
+pub mod Fields
+pub mod KeyOrder
+pub mod KeyReading
+pub mod Utf8
+pub mod ValueOrder
