@@ -1,0 +1,3 @@
+pub mod ReadingOn
+pub mod Rows
+pub mod ValueReading

@@ -1,0 +1,150 @@
+ghost use Rattle.std.specs.Prelude.{◌<◌, ◌↔◌, All, IsTrue};
+
+use crate::{
+    Catalog, Column, Index, OpeningRow, RowFault, Setup, Table, key_values, record_key, row_bytes,
+    row_of, rows_differ, store_key,
+};
+use std::alloc::Global;
+use std::process::Abort;
+use std::test::Fail;
+use tl_base::{Items, Settings, Text};
+use tl_values::{Kind, Row, Value, encode_key};
+
+// These are the bytes of the row, and no shorter part of them is a row's.
+fn expect_spelling(rt: &impl Abort, alloc: Global, values: Row, bytes: &[u8]) -> Result<(), Fail> {
+    let row = row_of(alloc, bytes)?;
+    let read = encode_key(alloc, row.as_slice())?;
+    let wanted = encode_key(alloc, values.as_slice())?;
+    assert_eq!(rt; read.as_slice(), wanted.as_slice());
+    let spelled = row_bytes(alloc, &row)?;
+    assert_eq!(rt; spelled.as_slice(), bytes);
+    for end in 0..bytes.len() {
+        let part = row_of(alloc, &bytes[..end]);
+        assert!(rt; matches!(part, Err(RowFault::BadRow)));
+    }
+    Ok(())
+}
+
+fn numbers(alloc: Global, first: i64, second: i64) -> Result<Row, Fail> {
+    let mut row = Row::new(alloc);
+    row.push(Value::Int(first))?;
+    row.push(Value::Int(second))?;
+    Ok(row)
+}
+
+#[test]
+fn rows_have_these_spellings(rt: HostRuntime) -> Result<(), Fail> {
+    let alloc = rt.alloc();
+    expect_spelling(
+        &rt,
+        alloc,
+        numbers(alloc, 1, 10)?,
+        &[2, 2, 0, 0, 0, 0, 0, 0, 0, 1, 2, 0, 0, 0, 0, 0, 0, 0, 10],
+    )?;
+    expect_spelling(&rt, alloc, Row::new(alloc), &[0])?;
+    let mut mixed = Row::new(alloc);
+    mixed.push(Value::Null)?;
+    mixed.push(Value::Bool(true))?;
+    mixed.push(Value::Int(-1))?;
+    mixed.push(Value::Text(Text::from_str(alloc, "a\0")?))?;
+    expect_spelling(
+        &rt,
+        alloc,
+        mixed,
+        &[
+            4, 0, 1, 1, 2, 0xff, 0xff, 0xff, 0xff, 0xff, 0xff, 0xff, 0xff, 3, 0, 2, 0x61, 0,
+        ],
+    )
+}
+
+#[test]
+fn other_bytes_are_no_rows(rt: HostRuntime) {
+    let alloc = rt.alloc();
+    let bad: [&[u8]; 6] = [&[], &[1], &[0, 0], &[1, 1, 2], &[1, 3, 0, 1, 0xff], &[1, 4]];
+    for bytes in bad {
+        assert!(rt; matches!(row_of(alloc, bytes), Err(RowFault::BadRow)));
+    }
+}
+
+fn point_table(alloc: Global) -> Result<Table, Fail> {
+    let mut columns = Items::new(alloc);
+    columns.push(column(alloc, "x")?)?;
+    columns.push(column(alloc, "y")?)?;
+    let mut indexes = Items::new(alloc);
+    indexes.push(Index {
+        name: Text::from_str(alloc, "by_y")?,
+        columns: Items::from_slice(alloc, &[1])?,
+    })?;
+    Ok(Table {
+        name: Text::from_str(alloc, "point")?,
+        columns,
+        key: Items::from_slice(alloc, &[0])?,
+        indexes,
+    })
+}
+
+fn column(alloc: Global, name: &str) -> Result<Column, Fail> {
+    Ok(Column {
+        name: Text::from_str(alloc, name)?,
+        kind: Kind::Int,
+        not_null: true,
+    })
+}
+
+fn lie_below(places: &[u8], count: usize) -> bool
+    ensures { IsTrue result ↔ All (λ place. place < count) places.now }
+{
+    places.iter().all(|place| usize::from(*place) < count)
+}
+
+#[test]
+fn records_have_these_keys(rt: HostRuntime) -> Result<(), Fail> {
+    let alloc = rt.alloc();
+    let table = point_table(alloc)?;
+    let row = numbers(alloc, 1, 10)?;
+    let wanted: &[u8] = &[4, 0, 2, 0x80, 0, 0, 0, 0, 0, 0, 1];
+    assert!(rt; lie_below(table.key.as_slice(), row.len()));
+    let key = record_key(alloc, 0, &table, &row)?;
+    assert_eq!(rt; key.as_slice(), wanted);
+    let values = key_values(alloc, &table, &row)?;
+    let same = store_key(alloc, 0, values.as_slice())?;
+    assert_eq!(rt; same.as_slice(), wanted);
+    Ok(())
+}
+
+fn point_setup(alloc: Global) -> Result<Setup, Fail> {
+    let mut tables = Items::new(alloc);
+    tables.push(point_table(alloc)?)?;
+    let mut rows = Items::new(alloc);
+    let row = numbers(alloc, 1, 10)?;
+    rows.push(OpeningRow { table: 0, row })?;
+    let settings = Settings {
+        shards: 1,
+        managers: 1,
+        fan: 4,
+        budget: 100,
+        threads: false,
+    };
+    let catalog = Catalog { tables };
+    Ok(Setup {
+        catalog,
+        rows,
+        settings,
+    })
+}
+
+#[test]
+fn setups_are_copied(rt: HostRuntime) -> Result<(), Fail> {
+    let alloc = rt.alloc();
+    let setup = point_setup(alloc)?;
+    let copy = setup.copy(alloc)?;
+    assert_eq!(rt; copy.rows.len(), setup.rows.len());
+    let tables = copy.catalog.tables.len();
+    assert_eq!(rt; tables, setup.catalog.tables.len());
+    Ok(())
+}
+
+#[test]
+fn laws_cost_nothing() {
+    rows_differ();
+}
