@@ -1,0 +1,10 @@
+mod Point
+mod Insertion
+mod Steps
+mod Log
+mod Facts
+mod Speaking
+mod Extend
+mod Next
+mod Stored
+mod OneHistory
