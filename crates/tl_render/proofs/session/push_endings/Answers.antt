@@ -1,0 +1,13 @@
+use Rattle.std.proofs.Common.{List, ◌++◌, ap, ◌∙◌}
+use Rattle.std.specs.List.{flat_map}
+use Rattle.tl_history.specs.declared.entry.Entry.{Entry}
+use Rattle.tl_history.specs.Script.{entries_told}
+use Rattle.tl_render.specs.Printed.{ending_text, endings_of}
+use Rattle.tl_render.proofs.Told.{writes_next, endings-told}
+use Rattle.tl_render.proofs.session.push_endings.Goals as goal
+
+pub loop-event-preserved : goal.loop-event-preserved
+loop-event-preserved c =
+    writes_next (λ e. flat_map ending_text (endings_of c.args.node e.entries)) (λ es. flat_map ending_text (endings_of c.args.node (entries_told es))) (endings-told c.args.node) _ _ _
+    c.args.events.now c.loop-event.event-index c.event-item.result c.loop-event-test.true c.event-item.is
+    (c.in_ok-push_endings_in.ensures ∙ ap (λ (es : List Entry). c.loop-event.out ++ flat_map ending_text (endings_of c.args.node es)) c.as_slice.ensures) c.loop-event.invariant

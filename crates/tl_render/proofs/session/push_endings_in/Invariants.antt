@@ -1,0 +1,8 @@
+use Rattle.std.proofs.Common.{◌≡◌, ◌++◌, drop}
+use Rattle.std.specs.List.{flat_map}
+use Rattle.tl_render.specs.Printed.{ending_text, endings_of}
+use Rattle.tl_render.proofs.session.push_endings_in.Given as goal
+
+-- what is written and the text of what is left are the text of all
+abbrev pub invariant-loop-entry : goal.invariant-loop-entry
+invariant-loop-entry l = l.out ++ flat_map ending_text (endings_of l.node (drop l.entry-index l.entries)) ≡ l.initial.out ++ flat_map ending_text (endings_of l.node l.entries)
