@@ -1,0 +1,3 @@
+pub mod RowsIn
+pub mod Runs
+pub mod Served

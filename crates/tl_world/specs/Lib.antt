@@ -1,0 +1,4 @@
+pub mod Tables
+pub mod Insert
+pub mod World
+pub mod Script
