@@ -1,0 +1,3 @@
+mod Fine
+mod Kept
+mod Whole
