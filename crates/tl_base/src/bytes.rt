@@ -4,10 +4,14 @@ ghost use Rattle.std.specs.Cmp.{partial_equiv_from_equiv};
 ghost use Rattle.std.specs.Cmp.Lexicographic.{pointwise, slice_cmp, nat_list_eq_equiv, nat_list_cmp_total, texts_po, texts_ties};
 
 use crate::duplicate::Duplicate;
+use crate::items::Items;
 use crate::memory::NoMemory;
 use std::alloc::Global;
 use std::cmp::Ordering;
 use std::marker::Model;
+
+/// Keys of cells, or of entries in an index.
+pub type Keys = Items<Bytes>;
 
 /// Bytes, as a list of numbers below 256.
 #[derive(Debug, Drop)]

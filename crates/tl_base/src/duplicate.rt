@@ -7,3 +7,15 @@ pub trait Duplicate: Sized {
     fn copy(&self) -> Result<Self, NoMemory>
         ensures { IfOk result (λ copy. copy ≡ self.now) };
 }
+
+impl Duplicate for u8 {
+    fn copy(&self) -> Result<u8, NoMemory> {
+        Ok(*self)
+    }
+}
+
+impl Duplicate for u64 {
+    fn copy(&self) -> Result<u64, NoMemory> {
+        Ok(*self)
+    }
+}

@@ -1,4 +1,4 @@
-ghost use Rattle.std.specs.Prelude.{◌≡◌, [], ◌∷◌, ◌++◌, ◌<◌, length, slice_get, slice_set, remove, ◌↔◌, IsTrue, IfOk, MatchOption, OnOk, OnErr, OnSome};
+ghost use Rattle.std.specs.Prelude.{◌≡◌, [], ◌∷◌, ◌++◌, ◌<◌, ◌≤◌, length, take, insert, slice_get, slice_set, remove, ◌↔◌, IsTrue, IfOk, MatchOption, OnOk, OnErr, OnSome};
 ghost use Rattle.std.specs.Option.{option_copied};
 ghost use Rattle.std.specs.Cmp.Lexicographic.{pointwise, lists_per, lists_equiv};
 ghost use Rattle.std.specs.Slice.Iter.{iter_rest};
@@ -60,6 +60,11 @@ impl<T> Items<T> {
         self.items.iter()
     }
 
+    /// Where the list takes its memory from.
+    pub fn allocator(&self) -> Global {
+        *self.items.allocator()
+    }
+
     pub fn len(&self) -> usize
         ensures { result ≡ length self.now }
     {
@@ -103,6 +108,23 @@ impl<T: Drop> Items<T> {
         let Items { mut items } = more;
         self.items.append(&mut items)?;
         Ok(())
+    }
+
+    /// Puts the item at this place, before those that stand from there on.
+    pub fn insert(&mut self, at: usize, item: T) -> Result<(), NoMemory>
+        requires { at ≤ length self.old }
+        ensures ok { OnOk result (self.new ≡ insert self.old at item) }
+        ensures err { OnErr result (self.new ≡ self.old) }
+    {
+        self.items.insert(at, item)?;
+        Ok(())
+    }
+
+    /// Keeps the first items alone, as many as this number or all.
+    pub fn truncate(&mut self, count: usize)
+        ensures { self.new ≡ take count self.old }
+    {
+        self.items.truncate(count);
     }
 
     pub fn set(&mut self, at: usize, item: T)

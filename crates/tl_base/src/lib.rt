@@ -16,7 +16,7 @@ mod tests;
 mod text;
 
 pub use boxed::Boxed;
-pub use bytes::Bytes;
+pub use bytes::{Bytes, Keys};
 pub use duplicate::Duplicate;
 pub use items::Items;
 pub use machine::Machine;

@@ -1,4 +1,4 @@
-use Rattle.std.proofs.Common.{ℕ, ◌≡◌, ◌-◌, ◌<◌, bit_or, ap, arith}
+use Rattle.std.proofs.Common.{ℕ, ◌-◌, ◌<◌, bit_or, ap, arith}
 use Rattle.tl_base.specs.declared.node.NodeSet.{NodeSet}
 use Rattle.tl_base.proofs.Shifts.{one_bit}
 use Rattle.tl_base.proofs.node.NodeSet.insert.Goals as goal
