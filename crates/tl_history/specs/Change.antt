@@ -1,17 +1,13 @@
 -- The meaning of a change, on the tables of the view: computed whole before anything is kept.
-use Rattle.std.specs.Prelude.{ℕ, Bool, false, ◌||◌, ◌&&◌, List, [], ◌∷◌, Result, map, length, nat_lt, if◌then◌else◌}
+use Rattle.std.specs.Prelude.{ℕ, ◌||◌, List, [], ◌∷◌, Result, length, nat_lt, if◌then◌else◌}
 use Rattle.std.specs.declared.option.Option.TheVariants.{Some}
 use Rattle.std.specs.declared.result.Result.TheVariants.{Ok, Err}
-use Rattle.std.specs.List.{list_any}
 use Rattle.std.specs.FinMap as map
 use Rattle.tl_values.specs.declared.value.Value.{Value}
-use Rattle.tl_values.specs.Value.{is_null}
-use Rattle.tl_values.specs.Key.{key_bytes}
-use Rattle.tl_schema.specs.declared.catalog.Column.{Column}
 use Rattle.tl_schema.specs.declared.catalog.Table.{Table}
 use Rattle.tl_schema.specs.declared.catalog.Catalog.{Catalog}
-use Rattle.tl_schema.specs.Row.{row_spelling}
-use Rattle.tl_schema.specs.Record.{value_at, key_values, record_key}
+use Rattle.tl_schema.specs.Limits.{breaks_not_null, is_long}
+use Rattle.tl_schema.specs.Record.{record_key}
 use Rattle.tl_history.specs.declared.bound.Edit.{Edit}
 use Rattle.tl_history.specs.declared.bound.Edit.TheVariants.{Insert}
 use Rattle.tl_history.specs.declared.entry.Answer.{Answer}
@@ -19,22 +15,6 @@ use Rattle.tl_history.specs.declared.entry.Answer.TheVariants as answer
 use Rattle.tl_history.specs.declared.state.Write.{Write}
 use Rattle.tl_history.specs.declared.state.Effect.{Effect}
 use Rattle.tl_history.specs.Tables.{Tables, table_of, put_write, put_writes, is_written}
-
--- whether a column that refuses NULL has one
-abbrev pub breaks_not_null : List Column → List Value → Bool
-breaks_not_null [] row = false
-breaks_not_null (c ∷ cs) [] = c.not_null || breaks_not_null cs []
-breaks_not_null (c ∷ cs) (v ∷ vs) = (c.not_null && is_null v) || breaks_not_null cs vs
-
--- the bytes of an index key: those of the values of its columns
-abbrev pub index_key_length : List Value → List ℕ → ℕ
-index_key_length row columns = length (key_bytes (map (value_at row) columns))
-
--- whether the row, its key or an index key is above its limit
-abbrev pub is_long : Table → List Value → Bool
-is_long table row =
-    nat_lt 1024 (length (row_spelling row)) || nat_lt 255 (length (key_bytes (key_values table row)))
-    || list_any (λ index. nat_lt 255 (index_key_length row index.columns)) table.indexes
 
 -- how many records a transaction may write
 abbrev pub most_records : ℕ

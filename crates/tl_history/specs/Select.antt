@@ -4,8 +4,7 @@ use Rattle.std.specs.declared.option.Option.TheVariants.{Some, None}
 use Rattle.tl_values.specs.declared.value.Value.{Value}
 use Rattle.tl_values.specs.declared.value.Truth.{Truth}
 use Rattle.tl_values.specs.declared.value.Truth.TheVariants as truth
-use Rattle.tl_values.specs.Value.{compared}
-use Rattle.tl_schema.specs.Record.{value_at}
+use Rattle.tl_values.specs.Value.{compared, value_at}
 use Rattle.tl_history.specs.declared.bound.Side.{Side}
 use Rattle.tl_history.specs.declared.bound.Side.TheVariants as side
 use Rattle.tl_history.specs.declared.bound.Condition.{Condition}

@@ -9,11 +9,8 @@ ghost use Rattle.tl_render.specs.Printed.{rows_text, table_text, tables_text};
 use crate::value::push_row;
 use tl_base::{Bytes, NoMemory};
 use tl_map::SortedMap;
-use tl_schema::Table;
+use tl_schema::{RECORD, Table};
 use tl_values::Row;
-
-/// The byte before the keys of records.
-const RECORD: u8 = 4;
 
 /// Writes each table of a catalog with its rows, which stand under their record keys.
 pub fn push_tables(

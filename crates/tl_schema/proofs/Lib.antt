@@ -1,3 +1,3 @@
-pub mod ReadingOn
+pub mod EntryOrder
 pub mod Rows
 pub mod ValueReading

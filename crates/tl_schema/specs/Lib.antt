@@ -1,3 +1,5 @@
+pub mod Fault
+pub mod Limits
 pub mod Reading
 pub mod Record
 pub mod Row

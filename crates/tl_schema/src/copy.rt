@@ -1,10 +1,26 @@
 //! Copies of what a database is made of, each equal to its original.
 
-ghost use Rattle.std.specs.Prelude.{◌≡◌, IfOk};
-
+use crate::access::Access;
 use crate::catalog::{Catalog, Column, Index, OpeningRow, Setup, Table};
-use std::alloc::Global;
-use tl_base::{Duplicate, Items, NoMemory};
+use tl_base::{Duplicate, NoMemory};
+
+impl Duplicate for Access {
+    fn copy(&self) -> Result<Access, NoMemory> {
+        Ok(match self {
+            Access::Point { key } => Access::Point { key: key.copy()? },
+            Access::KeyRange { low, high } => Access::KeyRange {
+                low: low.copy()?,
+                high: high.copy()?,
+            },
+            Access::IndexRange { index, low, high } => Access::IndexRange {
+                index: *index,
+                low: low.copy()?,
+                high: high.copy()?,
+            },
+            Access::Whole => Access::Whole,
+        })
+    }
+}
 
 impl Duplicate for Column {
     fn copy(&self) -> Result<Column, NoMemory> {
@@ -12,6 +28,34 @@ impl Duplicate for Column {
             name: self.name.copy()?,
             kind: self.kind,
             not_null: self.not_null,
+        })
+    }
+}
+
+impl Duplicate for Index {
+    fn copy(&self) -> Result<Index, NoMemory> {
+        Ok(Index {
+            name: self.name.copy()?,
+            columns: self.columns.copy()?,
+        })
+    }
+}
+
+impl Duplicate for Table {
+    fn copy(&self) -> Result<Table, NoMemory> {
+        Ok(Table {
+            name: self.name.copy()?,
+            columns: self.columns.copy()?,
+            key: self.key.copy()?,
+            indexes: self.indexes.copy()?,
+        })
+    }
+}
+
+impl Duplicate for Catalog {
+    fn copy(&self) -> Result<Catalog, NoMemory> {
+        Ok(Catalog {
+            tables: self.tables.copy()?,
         })
     }
 }
@@ -25,58 +69,10 @@ impl Duplicate for OpeningRow {
     }
 }
 
-impl Index {
-    pub fn copy(&self, alloc: Global) -> Result<Index, NoMemory>
-        ensures { IfOk result (λ copy. copy ≡ self.now) }
-    {
-        Ok(Index {
-            name: self.name.copy()?,
-            columns: Items::from_slice(alloc, self.columns.as_slice())?,
-        })
-    }
-}
-
-impl Table {
-    pub fn copy(&self, alloc: Global) -> Result<Table, NoMemory>
-        ensures { IfOk result (λ copy. copy ≡ self.now) }
-    {
-        Ok(Table {
-            name: self.name.copy()?,
-            columns: self.columns.copy()?,
-            key: Items::from_slice(alloc, self.key.as_slice())?,
-            indexes: copy_indexes(alloc, &self.indexes)?,
-        })
-    }
-}
-
-fn copy_indexes(alloc: Global, indexes: &Items<Index>) -> Result<Items<Index>, NoMemory>
-    ensures { IfOk result (λ copy. copy ≡ indexes.now) }
-{
-    let mut copies = Items::new(alloc);
-    for index in indexes.as_slice() {
-        copies.push(index.copy(alloc)?)?;
-    }
-    Ok(copies)
-}
-
-impl Catalog {
-    pub fn copy(&self, alloc: Global) -> Result<Catalog, NoMemory>
-        ensures { IfOk result (λ copy. copy ≡ self.now) }
-    {
-        let mut tables = Items::new(alloc);
-        for table in self.tables.as_slice() {
-            tables.push(table.copy(alloc)?)?;
-        }
-        Ok(Catalog { tables })
-    }
-}
-
-impl Setup {
-    pub fn copy(&self, alloc: Global) -> Result<Setup, NoMemory>
-        ensures { IfOk result (λ copy. copy ≡ self.now) }
-    {
+impl Duplicate for Setup {
+    fn copy(&self) -> Result<Setup, NoMemory> {
         Ok(Setup {
-            catalog: self.catalog.copy(alloc)?,
+            catalog: self.catalog.copy()?,
             rows: self.rows.copy()?,
             settings: self.settings,
         })

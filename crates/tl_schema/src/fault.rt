@@ -1,7 +1,8 @@
 ghost use Rattle.std.specs.Prelude.{◌≡◌};
-ghost use Rattle.tl_schema.specs.declared.fault.RowFault.TheVariants as fault;
+ghost use Rattle.tl_schema.specs.Fault.{row_fault};
 
 use thiserror::Error;
+use tl_codec::ReadFault;
 
 /// Why a row is not read.
 #[derive(Clone, Copy, Debug, PartialEq, Eq, Error)]
@@ -13,10 +14,13 @@ pub enum RowFault {
     NoMemory,
 }
 
-impl From<tl_base::NoMemory> for RowFault {
-    ghost from_gives = { λ _ e. e ≡ fault.NoMemory };
+impl From<ReadFault> for RowFault {
+    ghost from_gives = { λ fault e. e ≡ row_fault fault };
 
-    fn from(_error: tl_base::NoMemory) -> RowFault {
-        RowFault::NoMemory
+    fn from(fault: ReadFault) -> RowFault {
+        match fault {
+            ReadFault::Bad => RowFault::BadRow,
+            ReadFault::NoMemory => RowFault::NoMemory,
+        }
     }
 }

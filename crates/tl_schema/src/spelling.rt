@@ -7,6 +7,7 @@ ghost use Rattle.tl_schema.specs.Row.{FitsRow, IsShort, row_spelling, value_spel
 
 use std::alloc::Global;
 use tl_base::{Bytes, NoMemory};
+use tl_codec::{write_u16, write_u64};
 use tl_values::{Row, Value, prove_value};
 
 pub const NULL: u8 = 0;
@@ -51,7 +52,7 @@ fn push_number(bytes: &mut Bytes, number: i64) -> Result<(), NoMemory>
     ensures { OnOk result (bytes.new ≡ bytes.old ++ value_spelling (Value.Int number)) }
 {
     bytes.push(INT)?;
-    bytes.extend_from_slice(&number.cast_unsigned().to_be_bytes())
+    write_u64(bytes, number.cast_unsigned())
 }
 
 fn push_text(bytes: &mut Bytes, text: &[u8]) -> Result<(), NoMemory>
@@ -59,6 +60,6 @@ fn push_text(bytes: &mut Bytes, text: &[u8]) -> Result<(), NoMemory>
     ensures { OnOk result (bytes.new ≡ bytes.old ++ value_spelling (Value.Text text.now)) }
 {
     bytes.push(TEXT)?;
-    bytes.extend_from_slice(&(text.len() as u16).to_be_bytes())?;
+    write_u16(bytes, text.len() as u16)?;
     bytes.extend_from_slice(text)
 }

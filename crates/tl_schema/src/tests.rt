@@ -1,21 +1,18 @@
-ghost use Rattle.std.specs.Prelude.{◌<◌, ◌↔◌, All, IsTrue};
-
 use crate::{
-    Catalog, Column, Index, OpeningRow, RowFault, Setup, Table, key_values, record_key, row_bytes,
-    row_of, rows_differ, store_key,
+    Access, Catalog, Column, Index, OpeningRow, RowFault, Setup, Table, breaks_not_null,
+    entries_in_order, entries_of, is_long, key_values, record_key, row_bytes, row_of, rows_differ,
+    store_key,
 };
 use std::alloc::Global;
 use std::process::Abort;
 use std::test::Fail;
-use tl_base::{Items, Settings, Text};
-use tl_values::{Kind, Row, Value, encode_key};
+use tl_base::{Bytes, Duplicate, Items, Settings, Text};
+use tl_values::{Kind, Row, Value};
 
 // These are the bytes of the row, and no shorter part of them is a row's.
 fn expect_spelling(rt: &impl Abort, alloc: Global, values: Row, bytes: &[u8]) -> Result<(), Fail> {
     let row = row_of(alloc, bytes)?;
-    let read = encode_key(alloc, row.as_slice())?;
-    let wanted = encode_key(alloc, values.as_slice())?;
-    assert_eq!(rt; read.as_slice(), wanted.as_slice());
+    assert!(rt; row == values);
     let spelled = row_bytes(alloc, &row)?;
     assert_eq!(rt; spelled.as_slice(), bytes);
     for end in 0..bytes.len() {
@@ -91,24 +88,21 @@ fn column(alloc: Global, name: &str) -> Result<Column, Fail> {
     })
 }
 
-fn lie_below(places: &[u8], count: usize) -> bool
-    ensures { IsTrue result ↔ All (λ place. place < count) places.now }
-{
-    places.iter().all(|place| usize::from(*place) < count)
-}
-
 #[test]
 fn records_have_these_keys(rt: HostRuntime) -> Result<(), Fail> {
     let alloc = rt.alloc();
     let table = point_table(alloc)?;
     let row = numbers(alloc, 1, 10)?;
     let wanted: &[u8] = &[4, 0, 2, 0x80, 0, 0, 0, 0, 0, 0, 1];
-    assert!(rt; lie_below(table.key.as_slice(), row.len()));
     let key = record_key(alloc, 0, &table, &row)?;
     assert_eq!(rt; key.as_slice(), wanted);
     let values = key_values(alloc, &table, &row)?;
     let same = store_key(alloc, 0, values.as_slice())?;
     assert_eq!(rt; same.as_slice(), wanted);
+    let wanted: &[u8] = &[2, 0x80, 0, 0, 0, 0, 0, 0, 10, 2, 0x80, 0, 0, 0, 0, 0, 0, 1];
+    let entries = entries_of(alloc, &table, &row)?;
+    assert_eq!(rt; entries.len(), 1);
+    assert_eq!(rt; entries.as_slice()[0].as_slice(), wanted);
     Ok(())
 }
 
@@ -133,18 +127,50 @@ fn point_setup(alloc: Global) -> Result<Setup, Fail> {
     })
 }
 
+// A row of one text of so many letters, which is its key, is above a limit.
+fn is_long_text(alloc: Global, letters: usize) -> Result<bool, Fail> {
+    let mut text = Text::from_str(alloc, "")?.into_string();
+    for _ in 0..letters {
+        text.push('a')?;
+    }
+    let mut row = Row::new(alloc);
+    row.push(Value::Text(Text::from_string(text)))?;
+    row.push(Value::Null)?;
+    Ok(is_long(alloc, &point_table(alloc)?, &row)?)
+}
+
 #[test]
-fn setups_are_copied(rt: HostRuntime) -> Result<(), Fail> {
+fn rows_have_limits(rt: HostRuntime) -> Result<(), Fail> {
+    let alloc = rt.alloc();
+    assert!(rt; !is_long_text(alloc, 252)?);
+    assert!(rt; is_long_text(alloc, 253)?);
+    let table = point_table(alloc)?;
+    let mut row = numbers(alloc, 1, 10)?;
+    assert!(rt; !breaks_not_null(table.columns.as_slice(), &row));
+    row.set(1, Value::Null);
+    assert!(rt; breaks_not_null(table.columns.as_slice(), &row));
+    Ok(())
+}
+
+#[test]
+fn what_stands_in_a_setup_is_copied(rt: HostRuntime) -> Result<(), Fail> {
     let alloc = rt.alloc();
     let setup = point_setup(alloc)?;
-    let copy = setup.copy(alloc)?;
+    let copy = setup.copy()?;
     assert_eq!(rt; copy.rows.len(), setup.rows.len());
     let tables = copy.catalog.tables.len();
     assert_eq!(rt; tables, setup.catalog.tables.len());
+    let low = Bytes::from_slice(alloc, b"a")?;
+    let access = Access::KeyRange {
+        high: low.copy()?,
+        low,
+    };
+    assert!(rt; matches!(access.copy()?, Access::KeyRange { .. }));
     Ok(())
 }
 
 #[test]
 fn laws_cost_nothing() {
     rows_differ();
+    entries_in_order();
 }

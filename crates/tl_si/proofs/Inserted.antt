@@ -10,7 +10,8 @@ use Rattle.tl_history.specs.declared.entry.Answer.{Answer}
 use Rattle.tl_history.specs.declared.entry.Answer.TheVariants as answer
 use Rattle.tl_history.specs.declared.state.Write.{Write}
 use Rattle.tl_history.specs.Tables.{Tables, put_write, put_writes, is_written}
-use Rattle.tl_history.specs.Change.{insert_rows, breaks_not_null, is_long, most_records}
+use Rattle.tl_schema.specs.Limits.{breaks_not_null, is_long}
+use Rattle.tl_history.specs.Change.{insert_rows, most_records}
 
 abbrev Told : Type 0
 Told = Result (List Write) Answer

@@ -10,14 +10,14 @@ ghost use Rattle.tl_schema.specs.Record as record_of;
 
 use crate::after::after;
 use crate::allowed::allowed;
-use crate::change::{no_table, record_key};
+use crate::change::no_table;
 use crate::writes::put_write;
 use std::alloc::Global;
 use thiserror::Error;
 use tl_base::{Bytes, Duplicate, Items, NoMemory, NodeSet};
 use tl_history::{Commit, Entry, SiState, Write};
-use tl_schema::{Catalog, OpeningRow, Setup};
-use tl_values::Value;
+use tl_schema::{Catalog, OpeningRow, Setup, record_key};
+use tl_values::Row;
 
 /// Why there is no state after the entries.
 #[derive(Clone, Copy, Debug, PartialEq, Eq, Error)]
@@ -92,7 +92,7 @@ fn opening_writes(
 fn opening_write(alloc: Global, catalog: &Catalog, opening: &OpeningRow) -> Result<Write, NoMemory>
     ensures { let o = opening.now in IfOk result (λ write. write ≡ record { key = record_of.record_key o.table (tables.table_of catalog.now o.table) o.row; row = Some o.row }) }
 {
-    let key = key_in(alloc, catalog, opening.table, opening.row.as_slice())?;
+    let key = key_in(alloc, catalog, opening.table, &opening.row)?;
     let kept = opening.row.copy()?;
     Ok(Write {
         key,
@@ -100,7 +100,7 @@ fn opening_write(alloc: Global, catalog: &Catalog, opening: &OpeningRow) -> Resu
     })
 }
 
-fn key_in(alloc: Global, catalog: &Catalog, number: u8, values: &[Value]) -> Result<Bytes, NoMemory>
+fn key_in(alloc: Global, catalog: &Catalog, number: u8, values: &Row) -> Result<Bytes, NoMemory>
     ensures { IfOk result (λ key. key ≡ record_of.record_key number (tables.table_of catalog.now number) values.now) }
 {
     match catalog.tables.get(usize::from(number)) {

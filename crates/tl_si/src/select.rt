@@ -2,17 +2,15 @@
 
 ghost use Rattle.std.specs.Prelude.{◌≡◌, [], IfOk, nat_eq};
 ghost use Rattle.std.specs.List.{starts_with};
-ghost use Rattle.tl_schema.specs.Record.{store_key, value_at};
+ghost use Rattle.tl_schema.specs.Record.{store_key};
 ghost use Rattle.tl_history.specs.Select as select;
 
 use std::alloc::Global;
 use tl_base::{Bytes, Duplicate, NoMemory};
 use tl_history::{Condition, Query, Side};
 use tl_map::SortedMap;
+use tl_schema::RECORD;
 use tl_values::{Row, Rows, Truth, Value, compare};
-
-/// The byte before the keys of records.
-const RECORD: u8 = 4;
 
 /// The rows of the table that WHERE lets through, in the order of their keys.
 pub fn rows_of(alloc: Global, query: &Query, view: &SortedMap<Row>) -> Result<Rows, NoMemory>
@@ -71,15 +69,5 @@ fn side_value<'a>(side: &'a Side, values: &'a [Value], null: &'a Value) -> &'a V
     match side {
         Side::Place(place) => values.get(usize::from(*place)).unwrap_or(null),
         Side::Literal(value) => value,
-    }
-}
-
-/// The value at a place of the row, and NULL outside.
-pub fn value_at(values: &[Value], place: u8) -> Result<Value, NoMemory>
-    ensures { IfOk result (λ value. value ≡ value_at values.now place) }
-{
-    match values.get(usize::from(place)) {
-        Some(value) => value.copy(),
-        None => Ok(Value::Null),
     }
 }

@@ -1,10 +1,11 @@
 -- Reading a text byte after byte, as a loop does.
 use Rattle.std.proofs.Common.{◌≡◌, ℕ, zero, suc, ◌<◌, Bool, true, false, cond, eqb, List, [], ◌∷◌, ◌++◌, length, Option, Some, None, unwrap_or, refl, sym, ap, ◌∙◌, append_assoc, arith}
 use Rattle.std.proofs.lemmas.List.{append-nil}
-use Rattle.tl_values.specs.declared.fault.KeyFault.{KeyFault}
-use Rattle.tl_values.specs.declared.fault.KeyFault.TheVariants as fault
-use Rattle.tl_values.specs.Reading.{◌>>=◌, Fails, read_byte, read_escaped}
-use Rattle.tl_values.proofs.Fields.{some_is}
+use Rattle.tl_codec.specs.declared.fault.ReadFault.{ReadFault}
+use Rattle.tl_codec.specs.declared.fault.ReadFault.TheVariants as fault
+use Rattle.tl_codec.specs.Reading.{◌>>=◌, Fails}
+use Rattle.tl_values.specs.Reading.{read_byte, read_escaped}
+use Rattle.tl_codec.specs.Fields.{some_is}
 
 -- what was read before, and what is still read
 abbrev pub with_front : List ℕ → Option (List ℕ × List ℕ) → Option (List ℕ × List ℕ)
@@ -98,6 +99,6 @@ pub is_done : (front bytes rest : List ℕ) (total : Option (List ℕ × List �
 is_done front bytes rest total e so_far =
     sym so_far ∙ ap (with_front front) (byte_end bytes rest e) ∙ ap (λ (bs : List ℕ). Some (bs, rest)) (append-nil front)
 
-pub ends : (e : KeyFault) (front bytes : List ℕ) (total : Option (List ℕ × List ℕ)) → Fails e (read_byte bytes) → with_front front (read_escaped bytes) ≡ total → Fails e total
+pub ends : (e : ReadFault) (front bytes : List ℕ) (total : Option (List ℕ × List ℕ)) → Fails e (read_byte bytes) → with_front front (read_escaped bytes) ≡ total → Fails e total
 ends fault.NoMemory front bytes total h so_far = tt
-ends fault.BadKey front bytes total h so_far = sym so_far ∙ ap (with_front front) (byte_none bytes h)
+ends fault.Bad front bytes total h so_far = sym so_far ∙ ap (with_front front) (byte_none bytes h)

@@ -7,14 +7,16 @@ use Rattle.std.proofs.lemmas.Str.{IsUtf8-from_is_utf8, is_utf8-from_IsUtf8}
 use Rattle.std.specs.Int.{w64, to_be_bytes}
 use Rattle.std.specs.Int.RustNames.{FitsSigned}
 use Rattle.std.specs.Str.{is_utf8}
-use Rattle.tl_values.specs.declared.fault.KeyFault.{KeyFault}
-use Rattle.tl_values.specs.declared.fault.KeyFault.TheVariants as fault
+use Rattle.tl_codec.specs.declared.fault.ReadFault.{ReadFault}
+use Rattle.tl_codec.specs.declared.fault.ReadFault.TheVariants as fault
 use Rattle.tl_values.specs.declared.value.Value.{Value}
 use Rattle.tl_values.specs.declared.value.Value.TheVariants as value
 use Rattle.tl_values.specs.Key.{AreValues, IsValue, from_least, key_bytes, text_key, value_key}
-use Rattle.tl_values.specs.Reading.{◌>>=◌, Fails, number_at, read_number, read_flag, read_int, read_escaped, read_text, read_key_value}
+use Rattle.tl_codec.specs.Reading.{◌>>=◌, Fails, read_flag, read_number}
+use Rattle.tl_codec.specs.Taken.{IsBytes, Takes}
+use Rattle.tl_values.specs.Reading.{number_at, read_bool, read_int, read_escaped, read_text, read_key_value}
 use Rattle.tl_values.proofs.EscapedOn.{text_after}
-use Rattle.tl_values.proofs.Fields.{IsBytes, IsBytes-rest, Takes, behind, bind_some, number_again, number_takes, passed, some_is, wide64}
+use Rattle.tl_codec.specs.Fields.{IsBytes-rest, behind, bind_some, flag_again, flag_takes, number_again, number_takes, passed, some_is, wide64}
 
 -- ---- numbers
 
@@ -90,14 +92,11 @@ escaped_again (suc b ∷ text) rest = rw (escaped_again text rest) refl
 abbrev pub IsRead : List ℕ → Value × List ℕ → Type 0
 IsRead bytes x = Takes bytes (value_key x.0) x.1 × IsValue x.0
 
-flag_takes : (bytes : List ℕ) (x : Value × List ℕ) → IsBytes bytes → read_flag bytes ≡ Some x → IsRead (1 ∷ bytes) x
-unfolding read_flag
-flag_takes [] x fits e = absurd cc
-flag_takes (zero ∷ bytes) x fits e =
-    subst (IsRead (1 ∷ 0 ∷ bytes)) (some_is (value.Bool false, bytes) x e) (record { parts = refl; rest_fits = IsBytes-rest 0 bytes fits }, tt)
-flag_takes (suc zero ∷ bytes) x fits e =
-    subst (IsRead (1 ∷ 1 ∷ bytes)) (some_is (value.Bool true, bytes) x e) (record { parts = refl; rest_fits = IsBytes-rest 1 bytes fits }, tt)
-flag_takes (suc (suc b) ∷ bytes) x fits e = absurd cc
+bool_takes : (bytes : List ℕ) (x : Value × List ℕ) → IsBytes bytes → read_bool bytes ≡ Some x → IsRead (1 ∷ bytes) x
+unfolding read_bool
+bool_takes bytes x fits e =
+    let b = bind_some (read_flag bytes) (λ flag. Some (value.Bool flag.0, flag.1)) x e in
+    subst (IsRead (1 ∷ bytes)) (some_is (value.Bool b.0.0, b.0.1) x b.2) (behind 1 bytes _ b.0.1 (flag_takes bytes b.0.0 b.0.1 fits b.1), tt)
 
 int_takes : (bytes : List ℕ) (x : Value × List ℕ) → IsBytes bytes → read_int bytes ≡ Some x → IsRead (2 ∷ bytes) x
 unfolding read_int
@@ -119,16 +118,15 @@ unfolding read_key_value
 value_takes [] x fits e = absurd cc
 value_takes (zero ∷ bytes) x fits e =
     subst (IsRead (0 ∷ bytes)) (some_is (value.Null, bytes) x e) (record { parts = refl; rest_fits = IsBytes-rest 0 bytes fits }, tt)
-value_takes (suc zero ∷ bytes) x fits e = flag_takes bytes x (IsBytes-rest 1 bytes fits) e
+value_takes (suc zero ∷ bytes) x fits e = bool_takes bytes x (IsBytes-rest 1 bytes fits) e
 value_takes (suc (suc zero) ∷ bytes) x fits e = int_takes bytes x (IsBytes-rest 2 bytes fits) e
 value_takes (suc (suc (suc zero)) ∷ bytes) x fits e = text_takes bytes x (IsBytes-rest 3 bytes fits) e
 value_takes (suc (suc (suc (suc b))) ∷ bytes) x fits e = absurd cc
 
 pub value_again : (v : Value) (rest : List ℕ) → IsValue v → read_key_value (value_key v ++ rest) ≡ Some (v, rest)
-unfolding read_key_value read_flag read_int read_text
+unfolding read_key_value read_bool read_int read_text
 value_again value.Null rest fits = refl
-value_again (value.Bool false) rest fits = refl
-value_again (value.Bool true) rest fits = refl
+value_again (value.Bool b) rest fits = rw (flag_again b rest) refl
 value_again (value.Int n) rest fits =
     let read = number_again w64 (2 ^ 64) wide64 (from_least n) rest (place_fits n fits) in
     ap (λ (r : Option (ℕ × List ℕ)). r >>= λ x. Some (value.Int (number_at x.0), x.1)) read ∙ ap (λ (z : ℤ). Some (value.Int z, rest)) (number_of n fits)
@@ -195,12 +193,12 @@ no_more (x ∷ xs) (y ∷ ys) rest f g some none e =
     no_more xs ys rest f.1 g.1 some none after
 
 -- what an error says of all the bytes
-pub ends : (e : KeyFault) (bytes : List ℕ) (xs : List Value) (rest : List ℕ) → ReadSoFar bytes xs rest → 0 < length rest → Fails e (read_key_value rest) → e ≡ fault.BadKey → (ys : List Value) → AreValues ys → bytes ≡ key_bytes ys → ⊥
+pub ends : (e : ReadFault) (bytes : List ℕ) (xs : List Value) (rest : List ℕ) → ReadSoFar bytes xs rest → 0 < length rest → Fails e (read_key_value rest) → e ≡ fault.Bad → (ys : List Value) → AreValues ys → bytes ≡ key_bytes ys → ⊥
 ends fault.NoMemory bytes xs rest so_far some fails bad ys fits e = cc
-ends fault.BadKey bytes xs rest so_far some fails bad ys fits e = no_more xs ys rest so_far.each fits some fails (sym so_far.parts ∙ e)
+ends fault.Bad bytes xs rest so_far some fails bad ys fits e = no_more xs ys rest so_far.each fits some fails (sym so_far.parts ∙ e)
 
 pub begins : (bytes : List ℕ) (xs : List Value) → IsBytes bytes → xs ≡ [] → ReadSoFar bytes xs bytes
 begins bytes xs fits e = rw e (record { parts = refl; each = tt; rest_fits = fits })
 
-pub same_error : {A : Type 0} (r : Result A KeyFault) (x y z : KeyFault) → r ≡ Err x → x ≡ y → r ≡ Err z → y ≡ z
+pub same_error : {A : Type 0} (r : Result A ReadFault) (x y z : ReadFault) → r ≡ Err x → x ≡ y → r ≡ Err z → y ≡ z
 same_error r x y z p q e = cc

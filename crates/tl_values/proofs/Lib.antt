@@ -1,6 +1,5 @@
 pub mod Digits
 pub mod EscapedOn
-pub mod Fields
 pub mod KeyOrder
 pub mod KeyReading
 pub mod Utf8

@@ -1,35 +1,15 @@
--- Reading from left to right: what is read, and the bytes after it.
-use Rattle.std.specs.Prelude.{◌≡◌, ℕ, zero, suc, ◌^◌, ℤ, pos, ◌-ℤ◌, true, false, List, [], ◌∷◌, length, take, drop, Option, Some, None, Result, Ok, Err, nat_lt, ◌==◌, if◌then◌else◌}
-use Rattle.std.specs.Int.{Width, w64, byte_len, from_be_bytes}
+-- Reading a key from left to right: what is read, and the bytes after it.
+use Rattle.std.specs.Prelude.{ℕ, zero, suc, ◌^◌, ℤ, pos, ◌-ℤ◌, List, [], ◌∷◌, Option, Some, None, ◌==◌, if◌then◌else◌}
+use Rattle.std.specs.Int.{w64}
 use Rattle.std.specs.Str.{is_utf8}
-use Rattle.tl_values.specs.declared.fault.KeyFault.{KeyFault}
-use Rattle.tl_values.specs.declared.fault.KeyFault.TheVariants as fault
+use Rattle.tl_codec.specs.Reading.{◌>>=◌, read_flag, read_number}
 use Rattle.tl_values.specs.declared.value.Value.{Value}
 use Rattle.tl_values.specs.declared.value.Value.TheVariants as value
 
-infixl 10 ◌>>=◌
-abbrev pub ◌>>=◌ : {A B : Type 0} → Option A → (A → Option B) → Option B
-None >>= f = None
-(Some x) >>= f = f x
-
--- the bytes are refused where reading gives nothing
-abbrev pub Fails : {Y : Type 0} → KeyFault → Option Y → Type 0
-Fails fault.BadKey read = read ≡ None
-Fails fault.NoMemory read = Unit {0}
-
--- what a function returned, seen by view, is what reading gives, unless memory ran out
-abbrev pub Gives : {X Y : Type 0} → (X → Y) → Result X KeyFault → Option Y → Type 0
-Gives view (Ok x) read = read ≡ Some (view x)
-Gives view (Err e) read = Fails e read
-
-abbrev pub read_number : Width → List ℕ → Option (ℕ × List ℕ)
-read_number w bytes = if nat_lt (length bytes) (byte_len w) then None else Some (from_be_bytes w (take (byte_len w) bytes), drop (byte_len w) bytes)
-
-unfoldable pub read_flag : List ℕ → Option (Value × List ℕ)
-read_flag [] = None
-read_flag (zero ∷ rest) = Some (value.Bool false, rest)
-read_flag (suc zero ∷ rest) = Some (value.Bool true, rest)
-read_flag (suc (suc byte) ∷ rest) = None
+unfoldable pub read_bool : List ℕ → Option (Value × List ℕ)
+read_bool bytes = do
+  flag ← read_flag bytes
+  Some (value.Bool flag.0, flag.1)
 
 -- the number of this place, counted from the least
 abbrev pub number_at : ℕ → ℤ
@@ -64,7 +44,7 @@ read_text bytes = do
 unfoldable pub read_key_value : List ℕ → Option (Value × List ℕ)
 read_key_value [] = None
 read_key_value (zero ∷ rest) = Some (value.Null, rest)
-read_key_value (suc zero ∷ rest) = read_flag rest
+read_key_value (suc zero ∷ rest) = read_bool rest
 read_key_value (suc (suc zero) ∷ rest) = read_int rest
 read_key_value (suc (suc (suc zero)) ∷ rest) = read_text rest
 read_key_value (suc (suc (suc (suc byte))) ∷ rest) = None

@@ -1,5 +1,5 @@
 -- The order of values, and what a comparison of two values comes to.
-use Rattle.std.specs.Prelude.{ℕ, Bool, true, false, not, List}
+use Rattle.std.specs.Prelude.{ℕ, Bool, true, false, not, List, map, slice_index_or}
 use Rattle.std.specs.declared.cmp.Ordering.{Ordering}
 use Rattle.std.specs.Ordering.{nat_cmp, int_cmp, bool_cmp, is_eq, is_lt, is_le, is_gt, is_ge}
 use Rattle.std.specs.Cmp.Lexicographic.{slice_cmp}
@@ -52,3 +52,10 @@ abbrev pub compared : Value → Comparison → Value → Truth
 compared value.Null c b = truth.Unknown
 compared a c value.Null = truth.Unknown
 compared a c b = known (passes c (value_cmp a b))
+
+-- a place outside the row reads NULL
+abbrev pub value_at : List Value → ℕ → Value
+value_at values at = slice_index_or values at value.Null
+
+abbrev pub values_at : List ℕ → List Value → List Value
+values_at places values = map (value_at values) places

@@ -1,8 +1,8 @@
 ghost use Rattle.std.specs.Prelude.{◌≡◌};
-ghost use Rattle.tl_values.specs.declared.fault.KeyFault.TheVariants as fault;
+ghost use Rattle.tl_values.specs.Fault.{key_fault};
 
-use std::alloc::AllocFailed;
 use thiserror::Error;
+use tl_codec::ReadFault;
 
 /// Why a key is not read.
 #[derive(Clone, Copy, Debug, PartialEq, Eq, Error)]
@@ -14,18 +14,13 @@ pub enum KeyFault {
     NoMemory,
 }
 
-impl From<tl_base::NoMemory> for KeyFault {
-    ghost from_gives = { λ _ e. e ≡ fault.NoMemory };
+impl From<ReadFault> for KeyFault {
+    ghost from_gives = { λ fault e. e ≡ key_fault fault };
 
-    fn from(_error: tl_base::NoMemory) -> KeyFault {
-        KeyFault::NoMemory
-    }
-}
-
-impl<T: Drop> From<AllocFailed<T>> for KeyFault {
-    ghost from_gives = { λ _ e. e ≡ fault.NoMemory };
-
-    fn from(_error: AllocFailed<T>) -> KeyFault {
-        KeyFault::NoMemory
+    fn from(fault: ReadFault) -> KeyFault {
+        match fault {
+            ReadFault::Bad => KeyFault::BadKey,
+            ReadFault::NoMemory => KeyFault::NoMemory,
+        }
     }
 }

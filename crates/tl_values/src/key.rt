@@ -6,6 +6,7 @@ ghost use Rattle.tl_values.specs.Key.{AreValues, IsValue, from_least, key_bytes,
 use crate::value::Value;
 use std::alloc::Global;
 use tl_base::{Bytes, NoMemory};
+use tl_codec::write_u64;
 
 pub const NULL: u8 = 0;
 
@@ -44,7 +45,7 @@ fn push_number(key: &mut Bytes, number: i64) -> Result<(), NoMemory>
     ensures { OnOk result (key.new ≡ key.old ++ value_key (Value.Int number)) }
 {
     key.push(INT)?;
-    key.extend_from_slice(&number.abs_diff(i64::MIN).to_be_bytes())
+    write_u64(key, number.abs_diff(i64::MIN))
 }
 
 fn push_text(key: &mut Bytes, text: &str) -> Result<(), NoMemory>

@@ -7,6 +7,7 @@ mod fault;
 mod key;
 mod laws;
 mod reading;
+mod row;
 #[cfg(test)]
 mod tests;
 mod value;
@@ -17,4 +18,5 @@ pub use fault::KeyFault;
 pub use key::encode_key;
 pub use laws::{key_order, keys_differ, rows_in_order, values_in_order};
 pub use reading::decode_key;
+pub use row::{copy_at, values_at};
 pub use value::{Comparison, Kind, Row, Rows, Truth, Value};

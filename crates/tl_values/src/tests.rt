@@ -15,8 +15,7 @@ fn expect_key(rt: &impl Abort, alloc: Global, value: Value, bytes: &[u8]) -> Res
     let key = encode_key(alloc, row.as_slice())?;
     assert_eq!(rt; key.as_slice(), bytes);
     let back = decode_key(alloc, bytes)?;
-    let again = encode_key(alloc, back.as_slice())?;
-    assert_eq!(rt; again.as_slice(), bytes);
+    assert!(rt; back == row);
     for end in 1..bytes.len() {
         let part = decode_key(alloc, &bytes[..end]);
         assert!(rt; matches!(part, Err(KeyFault::BadKey)));

@@ -1,7 +1,7 @@
 use tl_base::{Items, Text};
 
 /// A value of SQL.
-#[derive(Debug, Drop)]
+#[derive(Debug, Drop, PartialEq, Eq)]
 pub enum Value {
     Null,
     Bool(bool),

@@ -1,7 +1,0 @@
-use Rattle.std.proofs.Common.{◌≡◌, drop}
-use Rattle.tl_history.specs.Change.{breaks_not_null}
-use Rattle.tl_si.proofs.change.breaks_not_null.Given as goal
-
--- what is left decides
-abbrev pub invariant-loop-column : goal.invariant-loop-column
-invariant-loop-column l = breaks_not_null (drop l.column-index l.columns) l.left ≡ breaks_not_null l.columns l.values
