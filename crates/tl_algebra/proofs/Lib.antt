@@ -1,0 +1,10 @@
+pub mod Aggregates
+pub mod Chains
+pub mod Determined
+pub mod Each
+pub mod Groups
+pub mod Growing
+pub mod LineOrder
+pub mod LinesOn
+pub mod Places
+pub mod Truths

@@ -1,0 +1,9 @@
+pub mod Aggregate
+pub mod Group
+pub mod Law
+pub mod Row
+pub mod Select
+pub mod Sorting
+pub mod Steps
+pub mod Truth
+pub mod Value

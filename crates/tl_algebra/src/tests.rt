@@ -1,0 +1,289 @@
+use crate::{
+    Condition, Edit, Expression, Join, Operator, Output, Query, SetColumn, Side, Sort, SortBy,
+    Step, ValueFault, lets_through, rows_of, select_has_one_answer, truth_of, value_of,
+};
+use std::alloc::Global;
+use std::process::Abort;
+use std::test::Fail;
+use tl_base::{Boxed, Items, NoMemory, Text};
+use tl_values::{Comparison, Row, Rows, Truth, Value, encode_key};
+
+// NULL, a number, or else a text.
+fn value(alloc: Global, word: &str) -> Result<Value, NoMemory> {
+    if word == "NULL" {
+        return Ok(Value::Null);
+    }
+    match word.parse::<i64>() {
+        Ok(number) => Ok(Value::Int(number)),
+        Err(_) => Ok(Value::Text(Text::from_str(alloc, word)?)),
+    }
+}
+
+// The values of the words, which stand between blanks.
+fn row(alloc: Global, words: &str) -> Result<Row, NoMemory> {
+    let mut row = Row::new(alloc);
+    for word in words.split(' ') {
+        row.push(value(alloc, word)?)?;
+    }
+    Ok(row)
+}
+
+fn rows(alloc: Global, texts: &[&str]) -> Result<Rows, NoMemory> {
+    let mut rows = Rows::new(alloc);
+    for text in texts {
+        rows.push(row(alloc, text)?)?;
+    }
+    Ok(rows)
+}
+
+fn table(alloc: Global, texts: &[&str]) -> Result<Items<Rows>, NoMemory> {
+    let mut tables = Items::new(alloc);
+    tables.push(rows(alloc, texts)?)?;
+    Ok(tables)
+}
+
+// a (id, g), b (id, a_id, n) and c (id, b_id).
+fn three_tables(alloc: Global) -> Result<Items<Rows>, NoMemory> {
+    let mut tables = table(alloc, &["1 x", "2 NULL", "3 NULL"])?;
+    tables.push(rows(alloc, &SECOND)?)?;
+    tables.push(rows(alloc, &["1 1", "2 2", "3 3", "4 4", "5 5"])?)?;
+    Ok(tables)
+}
+
+static SECOND: [&str; 5] = [
+    "1 1 9223372036854775807",
+    "2 1 1",
+    "3 2 NULL",
+    "4 NULL 5",
+    "5 3 4",
+];
+
+fn test(left: Side, by: Comparison, right: Side) -> Condition {
+    Condition::Test { left, by, right }
+}
+
+// A test of the first place.
+fn first(alloc: Global, by: Comparison, word: &str) -> Result<Condition, NoMemory> {
+    let literal = Side::Literal(value(alloc, word)?);
+    Ok(test(Side::Place(0), by, literal))
+}
+
+fn output(kind: &str, place: u8) -> Output {
+    match kind {
+        "rows" => Output::CountRows,
+        "count" => Output::Count(place),
+        "sum" => Output::Sum(place),
+        "least" => Output::Least(place),
+        "greatest" => Output::Greatest(place),
+        _ => Output::Expression(Expression::Place(place)),
+    }
+}
+
+// A SELECT of these outputs from one table.
+fn query(alloc: Global, kinds: &[(&str, u8)]) -> Result<Query, NoMemory> {
+    let mut outputs = Items::new(alloc);
+    for (kind, place) in kinds {
+        outputs.push(output(kind, *place))?;
+    }
+    let mut from = Items::new(alloc);
+    from.push(Join { table: 0, on: None })?;
+    Ok(Query {
+        from,
+        filter: None,
+        group: Items::new(alloc),
+        outputs,
+        sort: Items::new(alloc),
+        limit: None,
+    })
+}
+
+fn join(table: u8, left: u8, right: u8) -> Join {
+    let on = test(Side::Place(left), Comparison::Equal, Side::Place(right));
+    Join {
+        table,
+        on: Some(on),
+    }
+}
+
+// FROM a JOIN b ON b.a_id = a.id JOIN c ON c.b_id = b.id GROUP BY a.g.
+fn joined(alloc: Global, kinds: &[(&str, u8)]) -> Result<Query, NoMemory> {
+    let mut query = query(alloc, kinds)?;
+    query.from.push(join(1, 3, 0))?;
+    query.from.push(join(2, 6, 2))?;
+    query.group.push(1)?;
+    Ok(query)
+}
+
+// The query prints these rows.
+fn expect_rows(
+    rt: &impl Abort,
+    alloc: Global,
+    query: &Query,
+    tables: &Items<Rows>,
+    texts: &[&str],
+) -> Result<(), Fail> {
+    let found = rows_of(alloc, query, tables.as_slice())?;
+    let expected = rows(alloc, texts)?;
+    assert_eq!(rt; found.len(), expected.len());
+    for (found, expected) in found.iter().zip(expected.iter()) {
+        let found = encode_key(alloc, found.as_slice())?;
+        let expected = encode_key(alloc, expected.as_slice())?;
+        assert_eq!(rt; found.as_slice(), expected.as_slice());
+    }
+    Ok(())
+}
+
+fn expect_overflow(rt: &impl Abort, alloc: Global, query: &Query, tables: &Items<Rows>) {
+    let found = rows_of(alloc, query, tables.as_slice());
+    assert!(rt; matches!(found, Err(ValueFault::Overflow)));
+}
+
+#[test]
+fn groups_of_three_joined_tables(rt: HostRuntime) -> Result<(), Fail> {
+    let alloc = rt.alloc();
+    let tables = three_tables(alloc)?;
+    let sums = joined(alloc, &[("value", 1), ("sum", 4)])?;
+    expect_overflow(&rt, alloc, &sums, &tables);
+    let kinds = [("value", 1), ("rows", 0), ("count", 4), ("least", 4)];
+    let counts = joined(alloc, &kinds)?.copy(alloc)?;
+    expect_rows(&rt, alloc, &counts, &tables, &["NULL 2 1 4", "x 2 2 1"])
+}
+
+#[test]
+fn aggregates_over_none(rt: HostRuntime) -> Result<(), Fail> {
+    let alloc = rt.alloc();
+    let tables = table(alloc, &SECOND)?;
+    let kinds = [
+        ("sum", 2),
+        ("count", 2),
+        ("rows", 0),
+        ("greatest", 2),
+        ("value", 0),
+    ];
+    let mut none = query(alloc, &kinds)?;
+    none.filter = Some(first(alloc, Comparison::Greater, "9")?);
+    expect_rows(&rt, alloc, &none, &tables, &["NULL 0 0 NULL NULL"])?;
+    none.group.push(0)?;
+    expect_rows(&rt, alloc, &none, &tables, &[])
+}
+
+#[test]
+fn rows_are_sorted_and_then_limited(rt: HostRuntime) -> Result<(), Fail> {
+    let alloc = rt.alloc();
+    let tables = table(alloc, &["2 1 a", "1 1 b", "NULL 2 c", "3 NULL d"])?;
+    let mut sorted = query(alloc, &[("value", 0), ("value", 2)])?;
+    let mut sort = Sort {
+        by: SortBy::Place(1),
+        descending: true,
+    };
+    sorted.sort.push(sort)?;
+    let all = ["NULL c", "1 b", "2 a", "3 d"];
+    expect_rows(&rt, alloc, &sorted, &tables, &all)?;
+    sorted.limit = Some(2);
+    expect_rows(&rt, alloc, &sorted, &tables, &all[..2])?;
+    sort.by = SortBy::Printed(1);
+    sorted.sort.set(0, sort);
+    expect_rows(&rt, alloc, &sorted, &tables, &["3 d", "NULL c"])
+}
+
+// A chain of so many steps of one kind from the first place on.
+fn chain(alloc: Global, steps: u32, by: Operator, number: i64) -> Result<Expression, NoMemory> {
+    let mut rest = Items::new(alloc);
+    for _ in 0..steps {
+        let of = Expression::Literal(Value::Int(number));
+        rest.push(Step { by, of })?;
+    }
+    let first = Boxed::new(alloc, Expression::Place(0))?;
+    Ok(Expression::Chain { first, rest })
+}
+
+#[test]
+fn overflow_comes_before_limit(rt: HostRuntime) -> Result<(), Fail> {
+    let alloc = rt.alloc();
+    let tables = table(alloc, &["1", "2", "NULL"])?;
+    let mut over = query(alloc, &[])?;
+    let sum = chain(alloc, 1, Operator::Add, i64::MAX - 1)?;
+    over.outputs.push(Output::Expression(sum))?;
+    over.limit = Some(0);
+    expect_overflow(&rt, alloc, &over, &tables);
+    over.filter = Some(first(alloc, Comparison::Less, "2")?);
+    expect_rows(&rt, alloc, &over, &tables, &[])?;
+    over.limit = None;
+    expect_rows(&rt, alloc, &over, &tables, &["9223372036854775807"])
+}
+
+#[test]
+fn long_chains_are_computed_and_copied(rt: HostRuntime) -> Result<(), Fail> {
+    let alloc = rt.alloc();
+    let row = row(alloc, "2")?;
+    let long = chain(alloc, 100_000, Operator::Subtract, -3)?.copy(alloc)?;
+    assert!(rt; matches!(value_of(&long, &row)?, Value::Int(300_002)));
+    Ok(())
+}
+
+// The truth of `first = word`, and of NOT, OR with a false one and AND with an unknown one.
+fn truths(alloc: Global, word: &str, row: &Row) -> Result<[Truth; 4], NoMemory> {
+    let equal = first(alloc, Comparison::Equal, word)?;
+    let not = Condition::Not(Boxed::new(alloc, equal.copy(alloc)?)?);
+    let mut either = Items::new(alloc);
+    either.push(Condition::IsNull {
+        of: Side::Place(1),
+        negated: true,
+    })?;
+    either.push(equal.copy(alloc)?)?;
+    let mut both = Items::new(alloc);
+    both.push(equal.copy(alloc)?)?;
+    both.push(test(Side::Place(1), Comparison::Equal, Side::Place(9)))?;
+    Ok([
+        truth_of(&equal, row),
+        truth_of(&not, row),
+        truth_of(&Condition::Or(either), row),
+        truth_of(&Condition::And(both), row),
+    ])
+}
+
+#[test]
+fn conditions_have_three_truths(rt: HostRuntime) -> Result<(), Fail> {
+    let alloc = rt.alloc();
+    let row = row(alloc, "1 NULL")?;
+    let (no, unknown, yes) = (Truth::False, Truth::Unknown, Truth::True);
+    assert_eq!(rt; truths(alloc, "1", &row)?, [yes, no, yes, unknown]);
+    assert_eq!(rt; truths(alloc, "2", &row)?, [no, yes, no, no]);
+    assert_eq!(rt;
+        truths(alloc, "NULL", &row)?,
+        [unknown, unknown, unknown, unknown]
+    );
+    assert!(rt; lets_through(&None, &row));
+    assert!(rt; !lets_through(&Some(first(alloc, Comparison::Less, "NULL")?), &row));
+    Ok(())
+}
+
+fn update(alloc: Global) -> Result<Edit, NoMemory> {
+    let mut sets = Items::new(alloc);
+    let value = chain(alloc, 1, Operator::Multiply, 3)?;
+    sets.push(SetColumn { column: 1, value })?;
+    Ok(Edit::Update {
+        table: 0,
+        sets,
+        filter: Some(first(alloc, Comparison::NotEqual, "1")?),
+    })
+}
+
+fn insert(alloc: Global) -> Result<Edit, NoMemory> {
+    let rows = rows(alloc, &["1"])?;
+    Ok(Edit::Insert { table: 2, rows })
+}
+
+#[test]
+fn changes_are_copied(rt: HostRuntime) -> Result<(), Fail> {
+    let alloc = rt.alloc();
+    let delete = Edit::Delete {
+        table: 3,
+        filter: None,
+    };
+    assert!(rt; matches!(update(alloc)?.copy(alloc)?, Edit::Update { table: 0, .. }));
+    assert!(rt; matches!(insert(alloc)?.copy(alloc)?, Edit::Insert { table: 2, .. }));
+    assert!(rt; matches!(delete.copy(alloc)?, Edit::Delete { table: 3, .. }));
+    select_has_one_answer();
+    Ok(())
+}
