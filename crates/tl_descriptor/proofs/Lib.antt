@@ -1,0 +1,5 @@
+pub mod Apart
+pub mod Members
+pub mod Order
+pub mod Searches
+pub mod SetReading
