@@ -1,0 +1,4 @@
+pub mod CellReading
+pub mod Lists
+pub mod RowReading
+pub mod Short
