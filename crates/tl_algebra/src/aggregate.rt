@@ -13,8 +13,8 @@ use crate::row::value_at;
 use tl_base::{Duplicate, NoMemory};
 use tl_values::{Row, Value, order};
 
-#[tactic(auto, using(crate::proofs::Aggregates::counted))]
 /// How many rows have a value that isn't NULL at the place.
+#[tactic(auto, using(crate::proofs::Aggregates::counted))]
 pub fn count(rows: &[Row], place: u8) -> usize
     ensures count { result ≡ length (known_at place rows.now) }
     ensures within { result ≤ length rows.now }

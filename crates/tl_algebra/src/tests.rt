@@ -221,40 +221,52 @@ fn long_chains_are_computed_and_copied(rt: HostRuntime) -> Result<(), Fail> {
     Ok(())
 }
 
-// The truth of `first = word`, and of NOT, OR with a false one and AND with an unknown one.
-fn truths(alloc: Global, word: &str, row: &Row) -> Result<[Truth; 4], NoMemory> {
+fn not(alloc: Global, word: &str) -> Result<Condition, NoMemory> {
     let equal = first(alloc, Comparison::Equal, word)?;
-    let not = Condition::Not(Boxed::new(alloc, equal.copy(alloc)?)?);
-    let mut either = Items::new(alloc);
-    either.push(Condition::IsNull {
-        of: Side::Place(1),
-        negated: true,
-    })?;
-    either.push(equal.copy(alloc)?)?;
-    let mut both = Items::new(alloc);
-    both.push(equal.copy(alloc)?)?;
-    both.push(test(Side::Place(1), Comparison::Equal, Side::Place(9)))?;
-    Ok([
-        truth_of(&equal, row),
-        truth_of(&not, row),
-        truth_of(&Condition::Or(either), row),
-        truth_of(&Condition::And(both), row),
-    ])
+    Ok(Condition::Not(Boxed::new(alloc, equal)?))
+}
+
+// With a false one before it.
+fn or(alloc: Global, word: &str) -> Result<Condition, NoMemory> {
+    let mut parts = Items::new(alloc);
+    let of = Side::Place(1);
+    parts.push(Condition::IsNull { of, negated: true })?;
+    parts.push(first(alloc, Comparison::Equal, word)?)?;
+    Ok(Condition::Or(parts))
+}
+
+// With an unknown one behind it.
+fn and(alloc: Global, word: &str) -> Result<Condition, NoMemory> {
+    let mut parts = Items::new(alloc);
+    parts.push(first(alloc, Comparison::Equal, word)?)?;
+    parts.push(test(Side::Place(1), Comparison::Equal, Side::Place(9)))?;
+    Ok(Condition::And(parts))
 }
 
 #[test]
 fn conditions_have_three_truths(rt: HostRuntime) -> Result<(), Fail> {
     let alloc = rt.alloc();
     let row = row(alloc, "1 NULL")?;
-    let (no, unknown, yes) = (Truth::False, Truth::Unknown, Truth::True);
-    assert_eq!(rt; truths(alloc, "1", &row)?, [yes, no, yes, unknown]);
-    assert_eq!(rt; truths(alloc, "2", &row)?, [no, yes, no, no]);
-    assert_eq!(rt;
-        truths(alloc, "NULL", &row)?,
-        [unknown, unknown, unknown, unknown]
-    );
+    let cases = [
+        ("1", Truth::False, Truth::True, Truth::Unknown),
+        ("2", Truth::True, Truth::False, Truth::False),
+        ("NULL", Truth::Unknown, Truth::Unknown, Truth::Unknown),
+    ];
+    for (word, negated, either, both) in cases {
+        assert_eq!(rt; truth_of(&not(alloc, word)?, &row), negated);
+        assert_eq!(rt; truth_of(&or(alloc, word)?, &row), either);
+        assert_eq!(rt; truth_of(&and(alloc, word)?, &row), both);
+    }
+    Ok(())
+}
+
+#[test]
+fn what_is_not_written_lets_all_through(rt: HostRuntime) -> Result<(), Fail> {
+    let alloc = rt.alloc();
+    let row = row(alloc, "1 NULL")?;
     assert!(rt; lets_through(&None, &row));
-    assert!(rt; !lets_through(&Some(first(alloc, Comparison::Less, "NULL")?), &row));
+    let unknown = Some(first(alloc, Comparison::Less, "NULL")?.copy(alloc)?);
+    assert!(rt; !lets_through(&unknown, &row));
     Ok(())
 }
 
