@@ -11,7 +11,7 @@ ghost use Rattle.tl_base.specs.declared.bytes.Bytes.{Bytes};
 
 use std::alloc::Global;
 use std::collections::BTreeMap;
-use std::collections::btree_map::{Iter, Range};
+use std::collections::btree_map::{IntoIter, Iter, Range};
 use std::marker::Model;
 use std::mem;
 use tl_base::{Bytes, Duplicate, NoMemory};
@@ -165,6 +165,19 @@ impl<'a, V> IntoIterator for &'a SortedMap<V> {
 
     fn into_iter(self) -> Iter<'a, Bytes, V> {
         self.iter()
+    }
+}
+
+impl<V: Drop> IntoIterator for SortedMap<V> {
+    type Item = (Bytes, V);
+
+    type IntoIter = IntoIter<Bytes, V>;
+
+    ghost into_iter_gives = { λ m entries. entries ≡ map.entries m };
+
+    fn into_iter(self) -> IntoIter<Bytes, V> {
+        let SortedMap { tree } = self;
+        tree.into_iter()
     }
 }
 
