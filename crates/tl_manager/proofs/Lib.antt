@@ -1,0 +1,5 @@
+pub mod Given
+pub mod Log
+pub mod Low
+pub mod Numbers
+pub mod Places

@@ -1,0 +1,9 @@
+pub mod Board
+pub mod Floor
+pub mod Memory
+pub mod Notices
+pub mod Ranges
+pub mod Serves
+pub mod State
+pub mod StateCode
+pub mod Transactions
