@@ -145,10 +145,12 @@ fn rows_have_limits(rt: HostRuntime) -> Result<(), Fail> {
     assert!(rt; !is_long_text(alloc, 252)?);
     assert!(rt; is_long_text(alloc, 253)?);
     let table = point_table(alloc)?;
-    let mut row = numbers(alloc, 1, 10)?;
-    assert!(rt; !breaks_not_null(table.columns.as_slice(), &row));
-    row.set(1, Value::Null);
-    assert!(rt; breaks_not_null(table.columns.as_slice(), &row));
+    let whole = numbers(alloc, 1, 10)?;
+    assert!(rt; !breaks_not_null(table.columns.as_slice(), &whole));
+    let mut half = Row::new(alloc);
+    half.push(Value::Int(1))?;
+    half.push(Value::Null)?;
+    assert!(rt; breaks_not_null(table.columns.as_slice(), &half));
     Ok(())
 }
 
