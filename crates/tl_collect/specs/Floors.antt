@@ -1,0 +1,13 @@
+-- Of low-water marks the least.
+use Rattle.std.specs.Prelude.{List, [], ◌∷◌, fold, if◌then◌else◌}
+use Rattle.tl_descriptor.specs.Tids.{TidSet, begins}
+use Rattle.tl_manager.specs.State.{opening_copy}
+
+-- a mark takes the place of the least so far where it begins it
+abbrev pub lower : TidSet → TidSet → TidSet
+lower least mark = if begins mark least then mark else least
+
+-- the least of the first mark and those after it; of no marks that of a manager which has seen nothing
+abbrev pub least_of : List TidSet → TidSet
+least_of [] = opening_copy
+least_of (mark ∷ marks) = fold lower mark marks

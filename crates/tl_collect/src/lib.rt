@@ -1,0 +1,10 @@
+//! The low-water marks of all managers, as a node keeps them, and the least of them.
+#![tactic(auto)]
+
+mod floors;
+mod law;
+#[cfg(test)]
+mod tests;
+
+pub use floors::Floors;
+pub use law::least_begins_all;
