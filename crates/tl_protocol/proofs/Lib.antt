@@ -1,8 +1,11 @@
+pub mod Account
 pub mod Attempts
 pub mod Beginning
 pub mod Borne
 pub mod Cells
+pub mod Confined
 pub mod Duties
+pub mod Examples
 pub mod Finished
 pub mod Finishing
 pub mod Frames
@@ -14,10 +17,13 @@ pub mod Laid
 pub mod Later
 pub mod Ledger
 pub mod Managers
+pub mod Meanings
 pub mod Moves
 pub mod Opening
 pub mod Owner
+pub mod Play
 pub mod Proper
+pub mod RarerMoves
 pub mod Reached
 pub mod Recovery
 pub mod Sets
