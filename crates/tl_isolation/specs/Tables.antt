@@ -1,5 +1,5 @@
 -- The tables that a database opens with, and the tables of a catalog by their numbers.
-use Rattle.std.specs.Prelude.{◌≡◌, ℕ, ◌==◌, Bool, true, not, List, [], ◌∷◌, Some, length, map, unwrap_or, slice_get}
+use Rattle.std.specs.Prelude.{◌≡◌, ℕ, ◌==◌, Bool, true, not, List, [], ◌∷◌, Option, Some, None, length, map, unwrap_or, slice_get}
 use Rattle.std.specs.FinMap as finmap
 use Rattle.std.specs.List.{AllByRecursion, list_any}
 use Rattle.tl_values.specs.declared.value.Value.{Value}
@@ -10,7 +10,8 @@ use Rattle.tl_schema.specs.declared.catalog.OpeningRow.{OpeningRow}
 use Rattle.tl_schema.specs.declared.catalog.Setup.{Setup}
 use Rattle.tl_algebra.specs.declared.expression.Expression.{Expression}
 use Rattle.tl_algebra.specs.Value.{value_of}
-use Rattle.tl_write.specs.Change.{number_of}
+use Rattle.tl_write.specs.Change.{number_of, row_offence}
+use Rattle.tl_write.specs.declared.fault.ChangeFault.{ChangeFault}
 use Rattle.tl_schema.specs.Record.{record_key}
 use Rattle.tl_algebra.specs.declared.edit.Edit.{Edit}
 use Rattle.tl_algebra.specs.declared.edit.Edit.TheVariants.{Insert, Update, Delete}
@@ -41,10 +42,15 @@ pub record FitsTable (table : Table) (row : List Value) : Type 0 where
   pub width : length row ≡ length table.columns
   pub values : AreValues row
 
--- the row is one of a table of the catalog, and stands under its own record key
+-- the table doesn't refuse the row: it breaks no NOT NULL, and isn't long
+abbrev pub IsAccepted : Table → List Value → Type 0
+IsAccepted table row = ◌≡◌ {A = Option ChangeFault} (row_offence table row) None
+
+-- the row is one that a table of the catalog may have, and stands under its own record key
 pub record IsHome (catalog : Catalog) (key : List ℕ) (row : List Value) : Type 0 where
   pub number : ℕ
   pub fits : FitsTable (table_of catalog number) row
+  pub accepted : IsAccepted (table_of catalog number) row
   pub own_key : key ≡ record_key number (table_of catalog number) row
 
 -- each row is
@@ -68,6 +74,7 @@ SuitsTable table (Delete number condition) = Unit {0}
 abbrev pub Suits : Catalog → Edit → Type 0
 Suits catalog edit = SuitsTable (table_of catalog (number_of edit)) edit
 
--- the opening rows fit their tables
+-- the opening rows fit their tables, which don't refuse them
 abbrev pub OpensFitting : Setup → Type 0
-OpensFitting setup = AllByRecursion (λ (o : OpeningRow). FitsTable (table_of setup.catalog o.table) o.row) setup.rows
+OpensFitting setup =
+    AllByRecursion (λ (o : OpeningRow). FitsTable (table_of setup.catalog o.table) o.row × IsAccepted (table_of setup.catalog o.table) o.row) setup.rows

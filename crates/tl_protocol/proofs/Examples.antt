@@ -39,7 +39,7 @@ abbrev two_hundred : Setup
 two_hundred = opens_with (with_balance 1 100 ∷ with_balance 2 100 ∷ [])
 
 two_hundred_fit : OpensFitting two_hundred
-two_hundred_fit = (fits_account 1 100 refl refl, (fits_account 2 100 refl refl, tt))
+two_hundred_fit = ((fits_account 1 100 refl refl, refl), ((fits_account 2 100 refl refl, refl), tt))
 
 abbrev take_ten : Updating bank
 take_ten = changing_one sign.Subtract 10 1 refl
@@ -90,7 +90,7 @@ abbrev two_fifties : Setup
 two_fifties = opens_with (with_balance 1 50 ∷ with_balance 2 50 ∷ [])
 
 two_fifties_fit : OpensFitting two_fifties
-two_fifties_fit = (fits_account 1 50 refl refl, (fits_account 2 50 refl refl, tt))
+two_fifties_fit = ((fits_account 1 50 refl refl, refl), ((fits_account 2 50 refl refl, refl), tt))
 
 abbrev first_eighty : Updating bank
 first_eighty = changing_one sign.Subtract 80 1 refl
@@ -149,7 +149,7 @@ abbrev pub three_hundred : Setup
 three_hundred = opens_with (with_balance 1 100 ∷ with_balance 2 100 ∷ with_balance 3 100 ∷ [])
 
 pub three_hundred_fit : OpensFitting three_hundred
-three_hundred_fit = (fits_account 1 100 refl refl, (fits_account 2 100 refl refl, (fits_account 3 100 refl refl, tt)))
+three_hundred_fit = ((fits_account 1 100 refl refl, refl), ((fits_account 2 100 refl refl, refl), ((fits_account 3 100 refl refl, refl), tt)))
 
 abbrev pub set_zero : Updating bank
 set_zero = setting_all 0 refl

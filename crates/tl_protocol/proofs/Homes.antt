@@ -28,11 +28,11 @@ use Rattle.tl_algebra.specs.Value.{value_of}
 use Rattle.tl_write.specs.declared.fault.ChangeFault.{ChangeFault}
 use Rattle.tl_write.specs.declared.write.Effect.{Effect}
 use Rattle.tl_write.specs.declared.write.Write.{Write}
-use Rattle.tl_write.specs.Change.{Deed, Add, Replace, Remove, Overflow, after, deeds, judged, matching, nothing, number_of, offence, on_from, replaced, set_columns, unless}
+use Rattle.tl_write.specs.Change.{Deed, Add, Replace, Remove, Overflow, after, deeds, first_of, judged, matching, nothing, number_of, offence, on_from, replaced, row_offence, set_columns, unless}
 use Rattle.tl_write.specs.Own.{key_cmp, put_write, put_writes}
 use Rattle.tl_write.specs.Tables.{Tables, is_in, laid_over, laid_write, records_in}
 use Rattle.tl_isolation.specs.Meaning.{change_of}
-use Rattle.tl_isolation.specs.Tables.{AreHome, FitsTable, GivesValues, IsHome, Suits, opening_writes, table_of}
+use Rattle.tl_isolation.specs.Tables.{AreHome, FitsTable, GivesValues, IsAccepted, IsHome, Suits, opening_writes, table_of}
 use Rattle.tl_isolation.proofs.Lookups.{all_filter, all_map, some_same}
 use Rattle.tl_protocol.proofs.Shown.{AreHomeWrites}
 
@@ -60,13 +60,14 @@ puts_home catalog [] own h i = i
 puts_home catalog (w ∷ ws) own h i = puts_home catalog ws (put_write w own) h.1 (put_home catalog w own h.0 i)
 
 -- opening rows that fit their tables are written at home
-pub opening_home : (catalog : Catalog) (rows : List OpeningRow) → AllByRecursion (λ (o : OpeningRow). FitsTable (table_of catalog o.table) o.row) rows
+pub opening_home : (catalog : Catalog) (rows : List OpeningRow)
+    → AllByRecursion (λ (o : OpeningRow). FitsTable (table_of catalog o.table) o.row × IsAccepted (table_of catalog o.table) o.row) rows
     → AreHomeWrites catalog (opening_writes catalog rows)
 opening_home catalog [] fits = tt
 opening_home catalog (o ∷ os) fits =
     let key : List ℕ = record_key o.table (table_of catalog o.table) o.row in
     put_home catalog (record { key = key; row = Some o.row }) (opening_writes catalog os)
-    (row_home catalog key o.row (record { number = o.table; fits = fits.0; own_key = refl })) (opening_home catalog os fits.1)
+    (row_home catalog key o.row (record { number = o.table; fits = fits.0.0; accepted = fits.0.1; own_key = refl })) (opening_home catalog os fits.1)
 
 -- keys that tie are one
 tie : (k l : List ℕ) → is_eq (key_cmp k l) ≡ true → k ≡ l
@@ -190,23 +191,27 @@ columns_fit table (s ∷ ss) old new row o g h e =
     one : (v : Value) → IsValue v → FitsTable table (slice_set new s.column v)
     one v i = record { width = length-set new s.column v ∙ h.width; values = set_all IsValue new s.column v h.values i }
 
--- the row that a deed writes is at home
-abbrev IsHomeDeed : Catalog → Deed → Type 0
-IsHomeDeed catalog (Add key row) = IsHome catalog key row
-IsHomeDeed catalog (Replace key row) = IsHome catalog key row
-IsHomeDeed catalog (Remove key) = Unit {0}
-IsHomeDeed catalog Overflow = Unit {0}
+-- the row fits the table of this number, and the key is its own
+record FitsAt (catalog : Catalog) (number : ℕ) (key : List ℕ) (row : List Value) : Type 0 where
+  fits : FitsTable (table_of catalog number) row
+  own_key : key ≡ record_key number (table_of catalog number) row
+
+-- the row that a deed writes is at home in the table of this number where the table accepts it
+abbrev IsHomeDeed : Catalog → ℕ → Deed → Type 0
+IsHomeDeed catalog number (Add key row) = FitsAt catalog number key row
+IsHomeDeed catalog number (Replace key row) = FitsAt catalog number key row
+IsHomeDeed catalog number (Remove key) = Unit {0}
+IsHomeDeed catalog number Overflow = Unit {0}
 
 -- the new row has the key of the old one, and fits as the old one did
 replaced_home : (catalog : Catalog) (number : ℕ) (e : List ℕ × List Value) (changed : Option (List Value)) → IsHomeIn catalog number e
     → ((row : List Value) → FitsTable (table_of catalog number) e.1 → changed ≡ Some row → FitsTable (table_of catalog number) row)
     → ((row : List Value) → changed ≡ Some row → values_at (table_of catalog number).key row ≡ values_at (table_of catalog number).key e.1)
-    → IsHomeDeed catalog (replaced e.0 changed)
+    → IsHomeDeed catalog number (replaced e.0 changed)
 replaced_home catalog number e None h f k = tt
 replaced_home catalog number e (Some row) h f k =
     let same : number ≡ h.0.number = in_one number h.0.number e.0 (values_at (table_of catalog h.0.number).key e.1) h.0.own_key h.1 in
     record {
-      number = number;
       fits = f row (subst (λ (m : ℕ). FitsTable (table_of catalog m) e.1) (sym same) h.0.fits) refl;
       own_key = h.0.own_key ∙ ap (λ (m : ℕ). record_key m (table_of catalog m) e.1) (sym same) ∙ ap (store_key number) (sym (k row refl));
     }
@@ -215,47 +220,59 @@ replaced_home catalog number e (Some row) h f k =
     in_one number m key values e i = eqb-true number m (and_parts (number == m) true (ap (is_in number) (sym e) ∙ i)).0
 
 additions_home : (catalog : Catalog) (number : ℕ) (rows : List (List Value)) → AllByRecursion (FitsTable (table_of catalog number)) rows
-    → AllByRecursion (IsHomeDeed catalog) (map (λ (row : List Value). Add (record_key number (table_of catalog number) row) row) rows)
+    → AllByRecursion (IsHomeDeed catalog number) (map (λ (row : List Value). Add (record_key number (table_of catalog number) row) row) rows)
 additions_home catalog number [] fits = tt
-additions_home catalog number (row ∷ rows) fits = (record { number = number; fits = fits.0; own_key = refl }, additions_home catalog number rows fits.1)
+additions_home catalog number (row ∷ rows) fits = (record { fits = fits.0; own_key = refl }, additions_home catalog number rows fits.1)
 
-removals_home : (catalog : Catalog) (es : List (List ℕ × List Value)) → AllByRecursion (IsHomeDeed catalog) (map (λ (e : List ℕ × List Value). Remove e.0) es)
-removals_home catalog [] = tt
-removals_home catalog (e ∷ es) = (tt, removals_home catalog es)
+removals_home : (catalog : Catalog) (number : ℕ) (es : List (List ℕ × List Value)) → AllByRecursion (IsHomeDeed catalog number) (map (λ (e : List ℕ × List Value). Remove e.0) es)
+removals_home catalog number [] = tt
+removals_home catalog number (e ∷ es) = (tt, removals_home catalog number es)
 
 deeds_home : (catalog : Catalog) (edit : Edit) (tables : Tables) → AreHome catalog tables → Suits catalog edit
-    → AllByRecursion (IsHomeDeed catalog) (deeds edit (table_of catalog (number_of edit)) tables)
+    → AllByRecursion (IsHomeDeed catalog (number_of edit)) (deeds edit (table_of catalog (number_of edit)) tables)
 deeds_home catalog (Insert number rows) tables h k = additions_home catalog number rows k
 deeds_home catalog (Update number sets condition) tables h k =
     let key : List ℕ = (table_of catalog number).key in
     let apart = not-true (list_any (λ (set : SetColumn). list_any (λ (place : ℕ). place == set.column) key) sets) k.0 in
-    all_map (IsHomeIn catalog number) (IsHomeDeed catalog) (λ (e : List ℕ × List Value). replaced e.0 (set_columns sets e.1 e.1))
+    all_map (IsHomeIn catalog number) (IsHomeDeed catalog number) (λ (e : List ℕ × List Value). replaced e.0 (set_columns sets e.1 e.1))
     (λ e i. replaced_home catalog number e (set_columns sets e.1 e.1) i
     (λ row fits j. columns_fit (table_of catalog number) sets e.1 e.1 row fits.values k.1 fits j) (λ row j. columns_kept key sets e.1 e.1 row apart j))
     (matching number condition tables) (matching_home catalog number condition tables h)
-deeds_home catalog (Delete number condition) tables h k = removals_home catalog (matching number condition tables)
+deeds_home catalog (Delete number condition) tables h k = removals_home catalog number (matching number condition tables)
 
-after_home : (catalog : Catalog) (deed : Deed) (done : Effect) → IsHomeDeed catalog deed → AreHomeWrites catalog done.writes → AreHomeWrites catalog (after deed done).writes
-after_home catalog (Add key row) done h i = put_home catalog (record { key = key; row = Some row }) done.writes (row_home catalog key row h) i
-after_home catalog (Replace key row) done h i = put_home catalog (record { key = key; row = Some row }) done.writes (row_home catalog key row h) i
-after_home catalog (Remove key) done h i = put_home catalog (record { key = key; row = None }) done.writes (none_home catalog key) i
-after_home catalog Overflow done h i = i
+-- a deed without an offence writes a row that the table accepts
+accepted_row : (first later : Option ChangeFault) → first_of first later ≡ None → first ≡ None
+accepted_row None later e = refl
+accepted_row (Some f) later e = cc
 
-judged_home : (catalog : Catalog) (table : Table) (is_there : List ℕ → Bool) (own : List Write) (ds : List Deed) (done effect : Effect)
-    → AllByRecursion (IsHomeDeed catalog) ds → AreHomeWrites catalog done.writes → judged table is_there own ds done ≡ Ok effect → AreHomeWrites catalog effect.writes
-judged_home catalog table is_there own [] done effect h i e = subst (λ (x : Effect). AreHomeWrites catalog x.writes) (same done effect e) i
+after_home : (catalog : Catalog) (number : ℕ) (is_there : List ℕ → Bool) (own : List Write) (deed : Deed) (done : Effect) → IsHomeDeed catalog number deed
+    → offence (table_of catalog number) is_there own done.writes deed ≡ None → AreHomeWrites catalog done.writes → AreHomeWrites catalog (after deed done).writes
+after_home catalog number is_there own (Add key row) done h o i =
+    put_home catalog (record { key = key; row = Some row }) done.writes
+    (row_home catalog key row (record { number = number; fits = h.fits; accepted = accepted_row (row_offence (table_of catalog number) row) _ o; own_key = h.own_key })) i
+after_home catalog number is_there own (Replace key row) done h o i =
+    put_home catalog (record { key = key; row = Some row }) done.writes
+    (row_home catalog key row (record { number = number; fits = h.fits; accepted = accepted_row (row_offence (table_of catalog number) row) _ o; own_key = h.own_key })) i
+after_home catalog number is_there own (Remove key) done h o i = put_home catalog (record { key = key; row = None }) done.writes (none_home catalog key) i
+after_home catalog number is_there own Overflow done h o i = i
+
+judged_home : (catalog : Catalog) (number : ℕ) (is_there : List ℕ → Bool) (own : List Write) (ds : List Deed) (done effect : Effect)
+    → AllByRecursion (IsHomeDeed catalog number) ds → AreHomeWrites catalog done.writes → judged (table_of catalog number) is_there own ds done ≡ Ok effect
+    → AreHomeWrites catalog effect.writes
+judged_home catalog number is_there own [] done effect h i e = subst (λ (x : Effect). AreHomeWrites catalog x.writes) (same done effect e) i
   where
     same : (x y : Effect) → ◌≡◌ {A = Result Effect ChangeFault} (Ok x) (Ok y) → x ≡ y
     same x y e = cc
-judged_home catalog table is_there own (d ∷ ds) done effect h i e =
-    elim (offence table is_there own done.writes d) as (λ o. on_from (unless o (after d done)) (λ (more : Effect). judged table is_there own ds more) ≡ Ok effect → AreHomeWrites catalog effect.writes) [
-      | None ↦ λ e. judged_home catalog table is_there own ds (after d done) effect h.1 (after_home catalog d done h.0 i) e
-      | Some f ↦ λ e. absurd cc
-    ] e
+judged_home catalog number is_there own (d ∷ ds) done effect h i e =
+    elim (offence (table_of catalog number) is_there own done.writes d) as (λ o. offence (table_of catalog number) is_there own done.writes d ≡ o
+    → on_from (unless o (after d done)) (λ (more : Effect). judged (table_of catalog number) is_there own ds more) ≡ Ok effect → AreHomeWrites catalog effect.writes) [
+      | None ↦ λ o e. judged_home catalog number is_there own ds (after d done) effect h.1 (after_home catalog number is_there own d done h.0 o i) e
+      | Some f ↦ λ o e. absurd cc
+    ] refl e
 
 -- what a change of its table writes is at home where the tables are
 pub change_home : (catalog : Catalog) (edit : Edit) (tables : Tables) (own : List Write) (effect : Effect) → AreHome catalog tables
     → Suits catalog edit → change_of catalog edit tables own ≡ Ok effect → AreHomeWrites catalog effect.writes
 change_home catalog edit tables own effect h k e =
-    judged_home catalog (table_of catalog (number_of edit)) (finmap.contains_key tables) own (deeds edit (table_of catalog (number_of edit)) tables) nothing effect
+    judged_home catalog (number_of edit) (finmap.contains_key tables) own (deeds edit (table_of catalog (number_of edit)) tables) nothing effect
     (deeds_home catalog edit tables h k) tt e
