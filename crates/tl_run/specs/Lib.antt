@@ -10,3 +10,4 @@ pub mod Served
 pub mod Binding
 pub mod Schedule
 pub mod Run
+pub mod Law

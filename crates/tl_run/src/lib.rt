@@ -3,5 +3,7 @@
 #![tactic(auto)]
 
 mod event;
+mod law;
 
 pub use event::{Event, Journal};
+pub use law::every_journal_is_one_history;

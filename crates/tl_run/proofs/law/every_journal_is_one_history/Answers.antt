@@ -1,0 +1,35 @@
+use Rattle.std.proofs.Common.{[], sym, append-nil, subst}
+use Rattle.tl_isolation.specs.Script.{setup_of}
+use Rattle.tl_isolation.specs.History.{state_after}
+use Rattle.tl_protocol.proofs.Reached.{reached}
+use Rattle.tl_protocol.proofs.Standing.{stands_for}
+use Rattle.tl_run.specs.Journal.{entries_told}
+use Rattle.tl_run.specs.Law.{IsRun}
+use Rattle.tl_run.proofs.Journals.{spoken_at, spoken_whole, stood_at}
+use Rattle.tl_run.proofs.law.every_journal_is_one_history.Goals as goal
+
+-- src/law.rt:5:1
+pub returns-clause-history : goal.returns-clause-history
+returns-clause-history c script settings events run =
+    let whole = subst (IsRun script settings) (sym (append-nil events)) run in
+    let s = stood_at script settings events [] whole in
+    (reached run.bound.opening s.reach).history
+
+-- src/law.rt:5:1
+pub returns-clause-speaks : goal.returns-clause-speaks
+returns-clause-speaks c script settings events run = (spoken_at script settings events [] (subst (IsRun script settings) (sym (append-nil events)) run)).along
+
+-- src/law.rt:5:1
+pub returns-clause-whole : goal.returns-clause-whole
+returns-clause-whole c script settings events run node session h over =
+    let whole = subst (IsRun script settings) (sym (append-nil events)) run in
+    spoken_whole script settings events node session (stood_at script settings events [] whole) (spoken_at script settings events [] whole) h over
+
+-- src/law.rt:5:1
+pub returns-clause-stands : goal.returns-clause-stands
+returns-clause-stands c script settings past rest run =
+    let s = stood_at script settings past rest run in (
+      s.world,
+      record { records = λ key is_record. (s.store.holds.cells key is_record).read; commits = s.store.holds.commits.read },
+      stands_for (setup_of script settings) s.world (state_after (setup_of script settings) (entries_told past)) (entries_told past) (reached run.bound.opening s.reach),
+    )

@@ -1,0 +1,10 @@
+ghost use Rattle.tl_run.specs.Law.{OneHistory, SpeaksScript, SpeaksWhole, StoreStands};
+
+/// Every journal of a script: whatever the turns of the nodes' requests, whichever nodes vanish between any two and
+/// whoever recovers them.
+pub fn every_journal_is_one_history()
+    ensures history { OneHistory }
+    ensures speaks { SpeaksScript }
+    ensures whole { SpeaksWhole }
+    ensures stands { StoreStands }
+{}
