@@ -1,3 +1,5 @@
+pub mod Accesses
 pub mod Bounds
+pub mod Parts
 pub mod Suffices
 pub mod Tests
