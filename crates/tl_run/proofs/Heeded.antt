@@ -1,6 +1,5 @@
 -- What a place has replied to a request of a running node, as the protocol sees it.
-use Rattle.std.proofs.Common.{◌≡◌, inl, inr, ℕ, ◌+◌, ◌-◌, ◌<◌, ◌≤◌, ◌^◌, true, false, List, [], ◌∷◌, ◌++◌, length, Some, None, refl, sym, subst}
-use Rattle.std.specs.List.{AllByRecursion}
+use Rattle.std.proofs.Common.{◌≡◌, inl, inr, ℕ, ◌+◌, ◌-◌, ◌<◌, ◌≤◌, ◌^◌, true, false, List, ◌∷◌, ◌++◌, length, Some, None, refl, sym, subst}
 use Rattle.tl_base.specs.declared.place.PlaceId.{PlaceId}
 use Rattle.tl_base.specs.declared.place.Settings.{Settings}
 use Rattle.tl_base.specs.declared.store.StoreReply.{StoreReply}
@@ -33,7 +32,7 @@ use Rattle.tl_run.specs.Reads.{Reads}
 use Rattle.tl_run.specs.Served.{Answers, Parts, Serves, Stores, begun_parts, parts_of, stored_commits, stored_log, stored_record}
 use Rattle.tl_run.proofs.Asking.{manager_among, manager_tells, may_ask, undrawn_above}
 use Rattle.tl_run.proofs.Fits.{HeardFits}
-use Rattle.tl_run.proofs.Logs.{manager_replies}
+use Rattle.tl_run.proofs.Logs.{at_event, manager_replies}
 use Rattle.tl_run.proofs.ManagerServes.{MayAsk}
 use Rattle.tl_run.proofs.Managers.{is_of_shard, managers_stay_served}
 use Rattle.tl_run.proofs.Meets.{Before}
@@ -45,11 +44,6 @@ use Rattle.tl_run.proofs.StoreStays.{SameStore, events_answered, store_stays}
 use Rattle.tl_run.proofs.Stood.{Heeds, Stood}
 
 -- ---- the kind of the reply
-
--- what holds of all holds of one in the midst
-at_event : {A : Type 0} (P : A → Type 0) (past : List A) (x : A) (rest : List A) → AllByRecursion P (past ++ x ∷ rest) → P x
-at_event P [] x rest h = h.0
-at_event P (y ∷ past) x rest h = at_event P past x rest h.1
 
 -- a shard replies with what a store replies
 shard_reply : (settings : Settings) (ask : Ask) (p : Reply) → is_of_shard ask ≡ true → IsCall (place_of settings ask) (written ask) p

@@ -1,5 +1,5 @@
 -- The law of journals, event by event.
-use Rattle.std.proofs.Common.{◌≡◌, ℕ, ◌+◌, ◌<◌, ◌≤◌, Bool, true, false, List, [], ◌∷◌, ◌++◌, length, Some, refl, sym, ap, ◌∙◌, subst, inl, inr, ⊎_elim, append_assoc, append-nil, arith}
+use Rattle.std.proofs.Common.{◌≡◌, ℕ, ◌+◌, ◌<◌, ◌≤◌, Bool, true, false, List, [], ◌∷◌, ◌++◌, length, Option, None, Some, refl, sym, ap, ◌∙◌, subst, inl, inr, ⊎_elim, append_assoc, append-nil, arith}
 use Rattle.std.specs.Prelude.{◌^◌, nat_le}
 use Rattle.std.specs.List.{list_any}
 use Rattle.std.proofs.lemmas.Bool.{both_ways, or_cases}
@@ -10,20 +10,23 @@ use Rattle.tl_base.specs.declared.place.Settings.{Settings}
 use Rattle.tl_isolation.specs.declared.script.Script.{Script}
 use Rattle.tl_isolation.specs.declared.script.Session.{Session}
 use Rattle.tl_isolation.specs.Script.{IsAnswered, answers_by, vanishes_at}
+use Rattle.tl_cells.specs.declared.cell.Cell.{Cell as ShardCell}
+use Rattle.tl_protocol.specs.Store.{LogCell}
 use Rattle.tl_run.specs.declared.event.Event.{Event}
 use Rattle.tl_run.specs.Binding.{IsBound}
 use Rattle.tl_run.specs.Journal.{AreServed, IsEvent, answer_said, entries_told, has_vanished, node_after, session_of}
 use Rattle.tl_run.specs.Bytes.{heard}
-use Rattle.tl_run.specs.Law.{IsRun}
+use Rattle.tl_run.specs.Law.{IsLogCell, IsRun}
 use Rattle.tl_run.specs.Node.{Node}
 use Rattle.tl_run.specs.Schedule.{is_done, is_over}
 use Rattle.tl_run.proofs.Heeded.{heeded}
 use Rattle.tl_run.proofs.Opens.{found_number, layout_of, opens}
 use Rattle.tl_run.proofs.Posted.{before_stood, post_stood}
-use Rattle.tl_run.proofs.Requests.{request_stood}
+use Rattle.tl_run.proofs.Requests.{cut_stood, request_stood}
 use Rattle.tl_run.proofs.Shards.{takes_at}
 use Rattle.tl_run.proofs.Speaking.{SpeakIs, opening_speaks}
-use Rattle.tl_run.proofs.Spoken.{Spoken, post_spoken, request_spoken}
+use Rattle.tl_run.proofs.Spoken.{Spoken, cut_spoken, post_spoken, request_spoken}
+use Rattle.tl_run.proofs.Store.{LogIs}
 use Rattle.tl_run.proofs.StoreEvents.{length_next}
 use Rattle.tl_run.proofs.Stood.{Stood}
 
@@ -58,10 +61,19 @@ module _ (script : Script) (settings : Settings) (bound : IsBound script setting
             (takes_at settings script.catalog node (heard r.ask e.reply) (answer_said e.entries) shards stands.shards);
         spoken = request_spoken script settings past e s.spoken (layout_of script settings) s.stood r b;
       }
-  next past e rest s served (inr p) few = record {
+  next past e rest s served (inr (inl p)) few = record {
     stood = post_stood (layout_of script settings) script settings past e rest s.stood bound served p;
     spoken = post_spoken script settings past e s.spoken p;
   }
+  next past e rest s served (inr (inr c)) few =
+      let stands = s.stood.nodes e.node c.session c.is_session c.runs in
+      let least : 1 ≤ e.node = subst (λ (i : ℕ). 1 ≤ i) stands.is_so.number stands.fits.least in
+      let b = before_stood (layout_of script settings) script settings past s.stood bound.opening e.node c.session c.is_session c.runs least in
+      record {
+        stood = cut_stood (layout_of script settings) script settings past e s.stood c b
+            (heeded (layout_of script settings) script settings past e rest s.stood bound shards few served c.session c.is_session c.runs b c.ask c.asked c.stands_at c.bytes);
+        spoken = cut_spoken script settings past e s.spoken (layout_of script settings) s.stood c stands.is_so.number;
+      }
 
   along : (past now later : List Event) → Stands past → AreServed script settings ((past ++ now) ++ later) → Along (IsEvent script settings) past now
       → length past + length now < 2 ^ 32 → Stands (past ++ now)
@@ -85,8 +97,8 @@ module _ (script : Script) (settings : Settings) where
   stands_at past rest run =
       let few : length (past ++ rest) < 2 ^ 32 = run.few in
       let both : length (past ++ rest) ≡ length past + length rest = length-append past rest in
-      along script settings run.bound run.shards run.managers [] past rest (opening script settings run.bound run.shards run.managers) run.journal.served
-      (along_front (IsEvent script settings) [] past rest run.journal.events_are) (omega arith)
+      along script settings run.bound run.shards run.managers [] past rest (opening script settings run.bound run.shards run.managers) run.trace.served
+      (along_front (IsEvent script settings) [] past rest run.trace.events_are) (omega arith)
 
   pub stood_at : (past rest : List Event) → IsRun script settings (past ++ rest) → Stood (layout_of script settings) script settings past
   stood_at past rest run = (stands_at past rest run).stood
@@ -125,3 +137,8 @@ module _ (script : Script) (settings : Settings) where
           inl
           (ap (λ (k : ℕ). length (answers_by k (entries_told events))) number
           ∙ all (length speaks.past) (length node.todo) (length (answers_by n (entries_told events))) le answers ∙ sym many)
+
+-- what the store holds of a log cell is its bytes
+pub log_cell_is : (tid : ℕ) (c : ShardCell) (o : Option LogCell) → LogIs tid c o → IsLogCell tid c.value o
+log_cell_is tid c None h = h.1
+log_cell_is tid c (Some x) h = (h.read, h.own)

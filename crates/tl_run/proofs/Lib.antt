@@ -2,6 +2,8 @@ pub mod Asking
 pub mod Attempts
 pub mod Begins
 pub mod ChangeSizes
+pub mod CutShort
+pub mod CutSpoken
 pub mod Dispatch
 pub mod Elsewhere
 pub mod Ends

@@ -1,16 +1,13 @@
 -- One event more: the logs of the places, the entries, and who has vanished.
 use Rattle.std.proofs.Common.{◌≡◌, ℕ, ◌<◌, Bool, true, false, List, [], ◌∷◌, ◌++◌, append_assoc, append-nil, refl, sym, ap, ◌∙◌, subst}
 use Rattle.std.specs.Prelude.{◌||◌, flat_map}
-use Rattle.std.specs.List.{list_any}
+use Rattle.std.specs.List.{AllByRecursion, list_any}
 use Rattle.std.proofs.lemmas.Bool.{eq-eqb}
 use Rattle.tl_base.specs.Along.{Along}
 use Rattle.tl_base.specs.declared.place.PlaceId.TheVariants as place
 use Rattle.tl_base.specs.declared.place.Settings.{Settings}
-use Rattle.tl_base.specs.declared.store.StoreReply.{StoreReply}
-use Rattle.tl_base.specs.declared.store.StoreRequest.{StoreRequest}
 use Rattle.tl_schema.specs.declared.catalog.Catalog.{Catalog}
 use Rattle.tl_schema.specs.declared.catalog.Setup.{Setup}
-use Rattle.tl_cells.specs.Serves.{Call as ShardCall, Serves as ShardReplies}
 use Rattle.tl_manager.specs.declared.request.ManagerReply.{ManagerReply}
 use Rattle.tl_manager.specs.declared.request.ManagerRequest.{ManagerRequest}
 use Rattle.tl_manager.specs.declared.request.Reply.TheVariants as reply
@@ -82,26 +79,17 @@ state_more script settings past e =
     ap (λ es. state_from script.catalog (opening_state (setup_of script settings)) es) (entries_more past e)
     ∙ state_append script.catalog (opening_state (setup_of script settings)) (entries_told past) e.entries
 
+-- what holds of all events holds of one in their midst
+pub at_event : {A : Type 0} (P : A → Type 0) (past : List A) (x : A) (rest : List A) → AllByRecursion P (past ++ x ∷ rest) → P x
+at_event P [] x rest h = h.0
+at_event P (y ∷ past) x rest h = at_event P past x rest h.1
+
 -- what holds along a list holds at each of its places
 along_at : {A : Type 0} (P : List A → A → Type 0) (past xs : List A) (x : A) (ys : List A) → Along P past (xs ++ x ∷ ys) → P (past ++ xs) x
 along_at P past [] x ys h = subst (λ p. P p x) (sym (append-nil past)) h.0
 along_at P past (y ∷ xs) x ys h = subst (λ p. P p x) (append_assoc past (y ∷ []) xs) (along_at P (past ++ y ∷ []) xs x ys h.1)
 
--- the reply of an event at a shard follows from what the shard was asked before
-pub shard_replies : (script : Script) (settings : Settings) (past : List Event) (e : Event) (rest : List Event) (s : ℕ) (r : StoreRequest) (p : StoreReply)
-    → AreServed script settings (past ++ e ∷ rest) → s < settings.shards → e.place ≡ place.Shard s → e.request ≡ request.Store r → e.reply ≡ reply.Store p
-    → ShardReplies 0 (shard_log settings (setup_of script settings) s past) (record { request = r; reply = p })
-shard_replies script settings past e rest s r p served l at asked told =
-    let setup : Setup = setup_of script settings in
-    let f = λ (x : Event). shard_call s x.place x.request x.reply in
-    let call : ShardCall = record { request = r; reply = p } in
-    let own : shard_call s e.place e.request e.reply ≡ call ∷ [] = rw (at, asked, told, eq-eqb s s refl) refl in
-    let whole : shard_log settings setup s (past ++ e ∷ rest) ≡ shard_log settings setup s past ++ call ∷ flat_map f rest =
-    ap (λ zs. opening_calls settings setup s ++ zs) (flat_append f past (e ∷ rest))
-    ∙ sym (append_assoc (opening_calls settings setup s) (flat_map f past) (flat_map f (e ∷ rest)))
-    ∙ ap (λ c. shard_log settings setup s past ++ (c ++ flat_map f rest)) own in
-    along_at (ShardReplies 0) [] (shard_log settings setup s past) call (flat_map f rest) (subst (λ log. Along (ShardReplies 0) [] log) whole (served.shards s l))
-
+-- the reply of an event at a manager follows from what the manager was asked before
 pub manager_replies : (script : Script) (settings : Settings) (past : List Event) (e : Event) (rest : List Event) (m : ℕ) (r : ManagerRequest) (p : ManagerReply)
     → AreServed script settings (past ++ e ∷ rest) → m < settings.managers → e.place ≡ place.Manager m → e.request ≡ request.Manager r → e.reply ≡ reply.Manager p
     → ManagerReplies (manager_log m past) (record { request = r; reply = p })

@@ -1,9 +1,7 @@
 -- What the managers' lemmas want, from what holds of every reached state and of a journal whose places serve.
-use Rattle.std.proofs.Common.{◌≡◌, ◌⊎◌, inl, inr, ℕ, ◌+◌, ◌<◌, ◌≤◌, Bool, true, false, cond, List, [], ◌∷◌, ◌++◌, Option, Some, None, refl, sym, ap, ◌∙◌, subst, append_assoc, append-nil, eq-eqb, arith}
+use Rattle.std.proofs.Common.{◌≡◌, ◌⊎◌, inl, inr, ℕ, ◌+◌, ◌<◌, ◌≤◌, Bool, true, false, cond, List, [], ◌∷◌, ◌++◌, Option, Some, None, refl, sym, ap, ◌∙◌, subst, eq-eqb, arith}
 use Rattle.std.specs.Prelude.{◌==◌, ◌-◌, ◌&&◌, ◌||◌, nat_le, not}
 use Rattle.std.proofs.lemmas.Bool.Decides.{nat_tests}
-use Rattle.std.proofs.lemmas.List.Concat.{flat_map-append}
-use Rattle.tl_base.specs.Along.{Along}
 use Rattle.tl_base.specs.NodeSet.{has_node}
 use Rattle.tl_base.specs.declared.node.NodeSet.{NodeSet}
 use Rattle.tl_base.specs.declared.place.PlaceId.{PlaceId}
@@ -17,7 +15,7 @@ use Rattle.tl_manager.specs.declared.request.ManagerRequest.TheVariants as asked
 use Rattle.tl_manager.specs.declared.request.Reply.TheVariants as reply
 use Rattle.tl_manager.specs.declared.request.Request.{Request}
 use Rattle.tl_manager.specs.declared.request.Request.TheVariants as request
-use Rattle.tl_manager.specs.Serves.{Call, Serves, ServesAll, notice_after}
+use Rattle.tl_manager.specs.Serves.{notice_after}
 use Rattle.tl_protocol.specs.World.{Number, Begun, Carried, Phase, Idle, Noted, Drawn, Live, Trying, Undoing, Closing, Ending, Commit, Undo, World, runs}
 use Rattle.tl_protocol.specs.Next.{is_drawn, owed}
 use Rattle.tl_protocol.specs.Stands.{Notice, posted}
@@ -30,7 +28,7 @@ use Rattle.tl_run.specs.declared.event.Event.{Event}
 use Rattle.tl_run.specs.Bytes.{home_of}
 use Rattle.tl_run.specs.Journal.{manager_call, manager_log}
 use Rattle.tl_run.specs.Served.{AreNodes, Parts, parts_of}
-use Rattle.tl_run.proofs.Managers.{IsCall, IsSmall, ManagersAre, NoticeIs, agrees_itself, call_is, managers_agree}
+use Rattle.tl_run.proofs.Managers.{IsSmall, ManagersAre, NoticeIs, agrees_itself, managers_agree}
 use Rattle.tl_run.proofs.ManagerServes.{AreBegun, AreChained, MayAsk}
 
 -- ---- of every reached state
@@ -109,24 +107,6 @@ pub may_bring : (known : TidSet → Type 0) (settings : Settings) (p : Parts) (n
 may_bring known settings p n m low drawn =
     let back : low + 1 - 1 ≡ low = omega arith in
     (omega arith, omega arith, λ t e. drawn t (subst (λ l. is_drawn l t ≡ true) back e))
-
--- ---- of a journal whose places serve
-
-along_at : {A : Type 0} (P : List A → A → Type 0) (past xs : List A) (x : A) (ys : List A) → Along P past (xs ++ x ∷ ys) → P (past ++ xs) x
-along_at P past [] x ys h = subst (λ (front : List _). P front x) (sym (append-nil past)) h.0
-along_at P past (y ∷ xs) x ys h = subst (λ (front : List _). P front x) (append_assoc past (y ∷ []) xs) (along_at P (past ++ y ∷ []) xs x ys h.1)
-
-one_call : (m : ℕ) (c : Call) (b : Bool) → b ≡ true → cond b (c ∷ []) [] ≡ c ∷ []
-one_call m c b e = ap (λ t. cond t (c ∷ []) []) e
-
--- a call of a manager that serves its log
-pub serves_at : (m : ℕ) (past rest : List Event) (e : Event) (c : Call) → IsCall e m c → ServesAll (manager_log m (past ++ e ∷ rest)) → Serves (manager_log m past) c
-serves_at m past rest e c i h =
-    let calls : List Event → List Call = λ es. manager_log m es in
-    let log : manager_log m (past ++ e ∷ rest) ≡ manager_log m past ++ c ∷ manager_log m rest =
-    flat_map-append (λ (d : Event). manager_call m d.place d.request d.reply) past (e ∷ rest)
-    ∙ ap (λ (new : List Call). manager_log m past ++ (new ++ manager_log m rest)) (call_is e m c i m ∙ one_call m c _ (eq-eqb m m refl)) in
-    along_at Serves [] (manager_log m past) c (manager_log m rest) (subst (λ (calls : List Call). Along Serves [] calls) log h)
 
 -- ---- of notices
 

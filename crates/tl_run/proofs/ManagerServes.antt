@@ -32,13 +32,14 @@ use Rattle.tl_protocol.specs.Store.{put}
 use Rattle.tl_protocol.specs.World.{Number, Carried, Ready, Begun}
 use Rattle.tl_protocol.specs.Next.{is_drawn, numbered}
 use Rattle.tl_protocol.proofs.Frames.{put_one, put_other, put_same, some_same}
+use Rattle.tl_run.specs.Law.{AreActive, IsActive, tids_in}
 use Rattle.tl_run.specs.declared.event.Event.{Event}
 use Rattle.tl_run.specs.Ask.{Heard, AskManager, Told}
 use Rattle.tl_run.specs.Bytes.{heard, home_of, place_of, written}
 use Rattle.tl_run.specs.Journal.{manager_log}
 use Rattle.tl_run.specs.Served.{Answers, IsMark, Parts, begun_parts}
 use Rattle.tl_run.proofs.Meets.{AreDistinct, members}
-use Rattle.tl_run.proofs.Managers.{Agrees, AreActive, AreReady, IsActive, ManagerIs, ManagersAre, NoticeIs, active_more, agrees_itself, left_is, manager_silent, managers_after, notice_same, still_enough, tids_in}
+use Rattle.tl_run.proofs.Managers.{Agrees, AreReady, ManagerIs, ManagersAre, NoticeIs, active_more, agrees_itself, left_is, manager_silent, managers_after, notice_same, still_enough}
 
 -- ---- what the protocol knows
 

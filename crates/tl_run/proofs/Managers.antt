@@ -17,7 +17,6 @@ use Rattle.tl_manager.specs.declared.request.ManagerRequest.TheVariants as asked
 use Rattle.tl_manager.specs.declared.request.Reply.TheVariants as reply
 use Rattle.tl_manager.specs.declared.request.Request.TheVariants as request
 use Rattle.tl_manager.specs.Serves.{Call, active_after, begun, begun_by, brought, brought_by, copy_after, ends, gives, left, notice_after, posted, posted_by, shown, union_of}
-use Rattle.tl_manager.specs.Transactions.{tids_of}
 use Rattle.tl_manager.proofs.Log.{active-push, copy-push, posted-push}
 use Rattle.tl_manager.proofs.Numbers.{same_begun, same_brought}
 use Rattle.tl_isolation.proofs.Lookups.{weaker}
@@ -30,6 +29,7 @@ use Rattle.tl_run.specs.declared.event.Event.{Event}
 use Rattle.tl_run.specs.Ask.{Ask, LoadCommits, StoreCommits, LoadLog, StoreLog, LoadRecord, StoreRecord, ReadPage, DrawNumbers, AskManager, Heard}
 use Rattle.tl_run.specs.Bytes.{home_of, place_of}
 use Rattle.tl_run.specs.Journal.{manager_call, manager_log}
+use Rattle.tl_run.specs.Law.{AreActive, IsActive, tids_in}
 use Rattle.tl_run.specs.Served.{AreNodes, Parts, Serves, Stores, parts_of, stored_commits, stored_log, stored_record}
 use Rattle.tl_run.proofs.Meets.{AreDistinct}
 
@@ -39,19 +39,6 @@ use Rattle.tl_run.proofs.Meets.{AreDistinct}
 pub record AreReady (numbers : ℕ → Number) (m : ℕ) (tids : List ℕ) : Type 0 where
   pub each : AllByRecursion (λ t. numbers t ≡ Ready m) tids
   pub distinct : AreDistinct tids
-
-abbrev pub IsActive : Settings → (ℕ → Option Active) → ℕ → Active → Type 0
-IsActive settings active m x = (active x.node ≡ Some x) × (home_of settings x.node ≡ m)
-
--- the number of what is active at a node, if there is something
-abbrev pub tids_in : Option Active → List ℕ
-tids_in None = []
-tids_in (Some x) = x.tid ∷ []
-
--- the active transactions of a manager are those of its nodes, each once
-pub record AreActive (settings : Settings) (active : ℕ → Option Active) (m : ℕ) (xs : List Active) : Type 0 where
-  pub each : AllByRecursion (IsActive settings active m) xs
-  pub tids : (n : ℕ) → home_of settings n ≡ m → tids_of n xs ≡ tids_in (active n)
 
 abbrev pub IsSmall : NodeSet → Type 0
 IsSmall set = (d : ℕ) → 16 < d → has_node set d ≡ false

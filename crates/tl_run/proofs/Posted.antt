@@ -1,7 +1,6 @@
 -- Where a node stands before it makes a request or vanishes, and that the protocol goes on where it vanishes.
-use Rattle.std.proofs.Common.{◌≡◌, ℕ, ◌<◌, ◌≤◌, Bool, true, false, List, [], ◌∷◌, ◌++◌, length, Some, refl, sym, ap, ◌∙◌, subst, arith}
+use Rattle.std.proofs.Common.{◌≡◌, ℕ, ◌<◌, ◌≤◌, Bool, true, false, List, [], ◌∷◌, ◌++◌, Some, refl, sym, ap, ◌∙◌, subst, arith}
 use Rattle.std.specs.Prelude.{◌==◌, ◌-◌, ◌&&◌, ◌||◌, not}
-use Rattle.std.specs.List.{AllByRecursion}
 use Rattle.std.proofs.lemmas.Bool.{eq-eqb, eqb-true, eqb-false, ne_eqb}
 use Rattle.std.proofs.lemmas.Bool.Decides.{nat_tests}
 use Rattle.std.proofs.lemmas.Nat.{mod_below}
@@ -26,7 +25,6 @@ use Rattle.tl_isolation.specs.declared.state.SiState.{SiState}
 use Rattle.tl_isolation.specs.History.{state_after, state_from}
 use Rattle.tl_isolation.specs.Script.{setup_of}
 use Rattle.tl_isolation.specs.Tables.{OpensFitting}
-use Rattle.tl_protocol.specs.World.{World}
 use Rattle.tl_protocol.specs.Run.{Layout, Reach}
 use Rattle.tl_protocol.proofs.Reached.{Reached, reached}
 use Rattle.tl_run.specs.Binding.{IsBound}
@@ -35,17 +33,14 @@ use Rattle.tl_run.specs.Bytes.{home_of}
 use Rattle.tl_run.specs.Journal.{AreServed, IsCall, IsPost, entries_told, has_vanished, is_post, node_after, posts, session_of}
 use Rattle.tl_run.specs.Node.{Node, owed_by}
 use Rattle.tl_run.specs.Served.{Parts, parts_of}
-use Rattle.tl_run.proofs.Elsewhere.{after_other, node_elsewhere, of_post}
-use Rattle.tl_run.proofs.Goings.{IsElsewhere}
-use Rattle.tl_run.proofs.Logs.{entries_more, manager_replies, node_more, state_more, vanished_more}
+use Rattle.tl_run.proofs.Elsewhere.{of_post}
+use Rattle.tl_run.proofs.Logs.{at_event, entries_more, manager_replies, state_more, vanished_more}
 use Rattle.tl_run.proofs.ManagerPremises.{none_posted, owed_small}
 use Rattle.tl_run.proofs.Managers.{IsSmall, ManagersAre, post_stands}
 use Rattle.tl_run.proofs.Meets.{Before}
 use Rattle.tl_run.proofs.Present.{ReadsFor}
-use Rattle.tl_run.proofs.Sizes.{NodeFits, fits_more}
-use Rattle.tl_run.proofs.StoreEvents.{length_next}
 use Rattle.tl_run.proofs.StoreStays.{SameStore, store_stays}
-use Rattle.tl_run.proofs.Stood.{NodeStands, Stood}
+use Rattle.tl_run.proofs.Stood.{Stood, still_stands}
 use Rattle.tl_run.proofs.Vanishes.{Vanishes, posted_parts, vanish_goes}
 
 -- a node from 1 on that isn't gone runs
@@ -74,26 +69,7 @@ numbers layout script settings past s n session is_session stays =
     let stands = s.nodes n session is_session stays in
     subst (λ k. (1 ≤ k) × (k ≤ 16)) stands.is_so.number (stands.fits.least, stands.fits.greatest)
 
--- a node that goes on beside a death notice
-goes_on : (layout : Layout) (script : Script) (settings : Settings) (past : List Event) (e : Event) (s : Stood layout script settings past) (world : World)
-    (n : ℕ) (session : Session) → session_of script n ≡ Some session → has_vanished past n ≡ false → is_post e.request ≡ true → IsElsewhere s.world world n
-    → NodeStands script settings (length (past ++ e ∷ [])) (node_after settings script (past ++ e ∷ []) session) world n
-goes_on layout script settings past e s world n session is_session stays post away =
-    let node : Node = node_after settings script past session in
-    let stands = s.nodes n session is_session stays in
-    subst (λ x. NodeStands script settings (length (past ++ e ∷ [])) x world n)
-    (sym (node_more settings script past e session ∙ after_other settings script e node (of_post e.node node.number (is_post e.request) post)))
-    (record {
-      is_so = node_elsewhere (ReadsFor settings script.catalog node.todo) settings node s.world world n away stands.is_so;
-      fits = subst (λ few. NodeFits settings script.catalog few node) (sym (length_next past e)) (fits_more settings script.catalog (length past) node stands.fits);
-      shards = stands.shards;
-    })
-
 -- ---- the event
-
-all_at : {A : Type 0} (P : A → Type 0) (xs : List A) (x : A) (ys : List A) → AllByRecursion P (xs ++ x ∷ ys) → P x
-all_at P [] x ys h = h.0
-all_at P (y ∷ xs) x ys h = all_at P xs x ys h.1
 
 -- what a manager replies to its request is a manager's reply
 replies : (m : ℕ) (asks : ManagerRequest) (at : PlaceId) (r : Request) (p : Reply) → IsCall at r p → at ≡ place.Manager m → r ≡ request.Manager asks
@@ -151,8 +127,9 @@ post_stood layout script settings past e rest s bound served post = record {
   gone = gone;
   few = few;
   nodes = λ n session is_session stays.
-      goes_on layout script settings past e s v.world n session is_session
-      (or_before (has_vanished past n) (posts n e) (sym (vanished_more past e n) ∙ stays)) is_so (v.others n);
+      still_stands layout script settings past e s v.world n session is_session
+      (or_before (has_vanished past n) (posts n e) (sym (vanished_more past e n) ∙ stays))
+      (of_post e.node (node_after settings script past session).number (is_post e.request) is_so) (v.others n);
 }
   where
     setup : Setup
@@ -188,7 +165,7 @@ post_stood layout script settings past e rest s bound served post = record {
     told_so : e.reply ≡ reply.Manager told.Posted
     told_so =
         let found = replies (home_of settings e.node) (asked.Post e.node (owed_by node.doing)) e.place e.request e.reply
-        (all_at (λ (x : Event). IsCall x.place x.request x.reply) past e rest served.calls) post.stands_at post.notice in
+        (at_event (λ (x : Event). IsCall x.place x.request x.reply) past e rest served.calls) post.stands_at post.notice in
         found.1 ∙ ap reply.Manager (manager_replies script settings past e rest (home_of settings e.node) (asked.Post e.node (owed_by node.doing)) found.0
         served home post.stands_at post.notice found.1)
 

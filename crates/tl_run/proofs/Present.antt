@@ -7,19 +7,19 @@ use Rattle.tl_isolation.specs.declared.bound.Bound.{Bound}
 use Rattle.tl_isolation.specs.declared.entry.Answer.{Answer}
 use Rattle.tl_isolation.specs.declared.entry.Entry.{Entry}
 use Rattle.tl_isolation.specs.declared.state.SiState.{SiState}
-use Rattle.tl_protocol.specs.World.{Txn, Fact, Phase, World}
+use Rattle.tl_protocol.specs.World.{Txn, Fact, World}
 use Rattle.tl_protocol.specs.Run.{Layout}
 use Rattle.tl_protocol.proofs.Frames.{some_same}
 use Rattle.tl_run.specs.Ask.{Ask, Heard}
 use Rattle.tl_run.specs.Reads.{Reads}
-use Rattle.tl_run.specs.Node.{Doing, Outside, Noted, Drawing, Bringing, Inside, Reading, Trying, Stores, Removes, Closing, Ending, Recovering, ReadingLog, Stripping, Finishing, EndingLost, Stopped, Node}
+use Rattle.tl_run.specs.Node.{Doing, Node}
 use Rattle.tl_run.specs.Asks.{asks}
 use Rattle.tl_run.specs.Takes.{MayMean, takes}
 use Rattle.tl_run.specs.Says.{says_at}
 use Rattle.tl_run.specs.Served.{Parts, Serves, parts_of}
-use Rattle.tl_run.proofs.Meets.{Before, Goes, NodeIs, PhaseIs}
+use Rattle.tl_run.proofs.Meets.{Before, Goes}
 use Rattle.tl_run.proofs.Facts.{ReadsOk}
-use Rattle.tl_run.proofs.Elsewhere.{is_reading}
+use Rattle.tl_run.proofs.Elsewhere.{is_reading, node_any}
 use Rattle.tl_run.proofs.Goings.{Steps}
 
 -- what stands behind the reads of a node with these statements left
@@ -28,43 +28,13 @@ ReadsFor settings catalog [] t facts reads = Unit {0}
 ReadsFor settings catalog (statement ∷ later) t facts reads = ReadsOk settings catalog statement t facts reads
 
 module _ (R Q : Txn → List Fact → Reads → Type 0) where
-  -- where the node doesn't read, what was read doesn't matter
-  other_phase : (doing : Doing) (p : Phase) → is_reading doing ≡ false → PhaseIs R doing p → PhaseIs Q doing p
-  other_phase Outside p e h = h
-  other_phase (Noted seen) p e h = h
-  other_phase (Drawing seen) p e h = h
-  other_phase (Bringing seen low) p e h = h
-  other_phase (Inside t) p e h = h
-  other_phase (Reading t reads) p e h = absurd cc
-  other_phase (Trying t) p e h = h
-  other_phase (Stores s l) p e h = h
-  other_phase (Removes r l) p e h = h
-  other_phase (Closing t d c) p e h = h
-  other_phase (Ending tid told) p e h = h
-  other_phase (Recovering c) p e h = h
-  other_phase (ReadingLog c o) p e h = h
-  other_phase (Stripping c o log keys l) p e h = h
-  other_phase (Finishing c o committed x) p e h = h
-  other_phase (EndingLost c o) p e h = h
-  other_phase (Stopped nodes) p e h = h
-
-  other_node : (settings : Settings) (node : Node) (w : World) (n : ℕ) → is_reading node.doing ≡ false → NodeIs R settings node w n → NodeIs Q settings node w n
-  other_node settings node w n e h = record {
-    number = h.number;
-    phase = other_phase node.doing (w.phases n) e h.phase;
-    recovery = h.recovery;
-    statement = h.statement;
-    managers = h.managers;
-    floors = h.floors;
-  }
-
   pub before_other : (layout : Layout) (setup : Setup) (settings : Settings) (w : World) (state : SiState) (entries : List Entry) (n : ℕ) (node : Node)
       → is_reading node.doing ≡ false → Before R layout setup settings w state entries n node → Before Q layout setup settings w state entries n node
   before_other layout setup settings w state entries n node e b = record {
     reach = b.reach;
     opening = b.opening;
     runs = b.runs;
-    node_is = other_node settings node w n e b.node_is;
+    node_is = node_any R Q settings node w n e b.node_is;
     laid_out = b.laid_out;
     catalog = b.catalog;
     few = b.few;
@@ -76,7 +46,7 @@ module _ (R Q : Txn → List Fact → Reads → Type 0) where
     world = g.world;
     reach = g.reach;
     parts = g.parts;
-    node_is = other_node settings node g.world n e g.node_is;
+    node_is = node_any R Q settings node g.world n e g.node_is;
     others = g.others;
     gone = g.gone;
     laid_out = g.laid_out;

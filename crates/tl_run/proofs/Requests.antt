@@ -1,5 +1,5 @@
 -- Whatever a node is doing, the protocol goes on with its request, and stands so after it.
-use Rattle.std.proofs.Common.{◌≡◌, ℕ, ◌≤◌, false, ◌⊎◌, List, [], ◌∷◌, ◌++◌, length, Some, None, refl, sym, ap, ◌∙◌, subst, inl, inr}
+use Rattle.std.proofs.Common.{◌≡◌, ℕ, ◌+◌, ◌≤◌, false, ◌⊎◌, List, [], ◌∷◌, ◌++◌, length, Some, None, refl, sym, ap, ◌∙◌, subst, inl, inr}
 use Rattle.std.specs.Prelude.{not}
 use Rattle.std.specs.List.{AllByRecursion}
 use Rattle.std.proofs.lemmas.Bool.{cases_eq}
@@ -14,9 +14,8 @@ use Rattle.tl_isolation.specs.declared.entry.Entry.{Entry}
 use Rattle.tl_isolation.specs.declared.script.Script.{Script}
 use Rattle.tl_isolation.specs.declared.script.Session.{Session}
 use Rattle.tl_isolation.specs.declared.state.SiState.{SiState}
-use Rattle.tl_isolation.specs.History.{state_after, state_from}
+use Rattle.tl_isolation.specs.History.{state_after}
 use Rattle.tl_isolation.specs.Script.{setup_of}
-use Rattle.tl_protocol.specs.World.{World}
 use Rattle.tl_protocol.specs.Run.{Layout, Reach}
 use Rattle.tl_protocol.proofs.Frames.{some_same}
 use Rattle.tl_run.specs.Binding.{StatementFits}
@@ -24,21 +23,21 @@ use Rattle.tl_run.specs.declared.event.Event.{Event}
 use Rattle.tl_run.specs.Ask.{Ask, AskManager}
 use Rattle.tl_run.specs.Asks.{asks}
 use Rattle.tl_run.specs.Bytes.{heard, written}
-use Rattle.tl_run.specs.Journal.{IsRequest, answer_said, entries_told, has_vanished, is_post, node_after, session_of}
+use Rattle.tl_run.specs.Journal.{IsCut, IsRequest, after_event, answer_said, entries_told, has_vanished, is_post, node_after, session_of}
 use Rattle.tl_run.specs.Node.{Doing, Inside, Reading, Node}
-use Rattle.tl_run.specs.Says.{says_at}
 use Rattle.tl_run.specs.Served.{Parts}
 use Rattle.tl_run.specs.Takes.{takes}
 use Rattle.tl_run.proofs.Asking.{asks_no_post}
+use Rattle.tl_run.specs.Memory.{cut_short}
+use Rattle.tl_run.proofs.CutShort.{cut_goes}
 use Rattle.tl_run.proofs.Dispatch.{doing_goes, is_inside}
-use Rattle.tl_run.proofs.Elsewhere.{is_reading, of_other}
-use Rattle.tl_run.proofs.Goings.{IsElsewhere}
+use Rattle.tl_run.proofs.Elsewhere.{after_cut, after_own, is_to_say, is_reading, of_other}
 use Rattle.tl_run.proofs.Logs.{entries_more, state_more}
 use Rattle.tl_run.proofs.Managers.{ManagersAre}
-use Rattle.tl_run.proofs.Meets.{Before, NodeIs}
+use Rattle.tl_run.proofs.Meets.{Before}
 use Rattle.tl_run.proofs.Present.{GoesFor, ReadsFor, StepsFor, steps_for, steps_for_at}
 use Rattle.tl_run.proofs.Shards.{DoingAt}
-use Rattle.tl_run.proofs.Sizes.{DoingFits}
+use Rattle.tl_run.proofs.Sizes.{DoingFits, NodeFits, takes_fit}
 use Rattle.tl_run.proofs.Statements.{inside_steps, reading_goes}
 use Rattle.tl_run.proofs.Store.{StoreIs}
 use Rattle.tl_run.proofs.Stood.{Heeds, NodeStands, Stood, own_stands, still_stands, vanished_same}
@@ -77,10 +76,11 @@ asked_no_post : (ask : Ask) → ((m d : ℕ) (also : NodeSet) → ask ≡ AskMan
 asked_no_post (AskManager m r) h = no_notice m r (λ d also e. h m d also (ap (AskManager m) e))
 asked_no_post ask h = refl
 
-pub request_no_post : (script : Script) (settings : Settings) (past : List Event) (e : Event) → IsRequest script settings past e → is_post e.request ≡ false
-request_no_post script settings past e r =
-    ap is_post r.bytes
-    ∙ asked_no_post r.ask (λ m d also f. asks_no_post settings script.catalog (node_after settings script past r.session) m d also (r.asked ∙ ap Some f))
+pub request_no_post : (script : Script) (settings : Settings) (past : List Event) (e : Event) (session : Session) (ask : Ask) → e.request ≡ written ask
+    → asks settings script.catalog (node_after settings script past session) ≡ Some ask → is_post e.request ≡ false
+request_no_post script settings past e session ask bytes asked =
+    ap is_post bytes
+    ∙ asked_no_post ask (λ m d also f. asks_no_post settings script.catalog (node_after settings script past session) m d also (asked ∙ ap Some f))
 
 module _ (layout : Layout) (script : Script) (settings : Settings) (past : List Event) (e : Event) (s : Stood layout script settings past) where
   setup : Setup
@@ -91,6 +91,39 @@ module _ (layout : Layout) (script : Script) (settings : Settings) (past : List 
 
   state : SiState
   state = state_after (setup_of script settings) (entries_told past)
+
+  -- where a request leads its node to this, and the protocol goes on so, it stands there
+  pub stood_by : (session : Session) → session_of script e.node ≡ Some session → has_vanished past e.node ≡ false → is_post e.request ≡ false
+      → (new : Node) (after : Parts) → after_event settings script e (node_after settings script past session) ≡ new
+      → GoesFor layout (setup_of script settings) settings s.world (state_after (setup_of script settings) (entries_told past)) (entries_told past) e.entries e.node new after
+      → StoreIs settings (setup_of script settings) (past ++ e ∷ []) after → ManagersAre settings (past ++ e ∷ []) after
+      → NodeFits settings script.catalog (length past + 1) new → DoingAt settings new.doing → Stood layout script settings (past ++ e ∷ [])
+  unfolding setup entries state
+  stood_by own is_session own_runs post new after leads goes store managers fits at =
+      record {
+        world = goes.world;
+        reach = subst (λ (es : List Entry). Reach layout setup goes.world (state_after setup (entries_told (past ++ e ∷ []))) es) (sym (entries_more past e))
+            (subst (λ (x : SiState). Reach layout setup goes.world x (entries ++ e.entries)) (sym (state_more script settings past e)) goes.reach);
+        store = subst (λ (p : Parts). StoreIs settings setup (past ++ e ∷ []) p) (sym goes.parts) store;
+        managers = subst (λ (p : Parts). ManagersAre settings (past ++ e ∷ []) p) (sym goes.parts) managers;
+        laid_out = goes.laid_out;
+        catalog = goes.catalog;
+        gone = λ n. goes.gone n ∙ s.gone n ∙ sym (vanished_same past e n post);
+        few = λ n g. s.few n (sym (goes.gone n) ∙ g);
+        nodes = λ n session h runs. by_node n session h (sym (vanished_same past e n post) ∙ runs) (cases_eq e.node n);
+      }
+    where
+      by_node : (n : ℕ) (session : Session) → session_of script n ≡ Some session → has_vanished past n ≡ false → (e.node ≡ n) ⊎ (e.node ≡ n → ⊥)
+          → NodeStands script settings (length (past ++ e ∷ [])) (node_after settings script (past ++ e ∷ []) session) goes.world n
+      by_node n session h runs (inl same) =
+          subst (λ (i : ℕ). NodeStands script settings (length (past ++ e ∷ [])) (node_after settings script (past ++ e ∷ []) session) goes.world i) same
+          (subst (λ (x : Session). NodeStands script settings (length (past ++ e ∷ [])) (node_after settings script (past ++ e ∷ []) x) goes.world e.node)
+          (some_same own session (sym is_session ∙ ap (session_of script) same ∙ h))
+          (own_stands layout script settings past e s goes.world e.node own new is_session own_runs leads fits at goes.node_is))
+      by_node n session h runs (inr other) =
+          still_stands layout script settings past e s goes.world n session h runs
+          (of_other e.node (node_after settings script past session).number (not (is_post e.request)) (λ i. other (i ∙ (s.nodes n session h runs).is_so.number)))
+          (goes.others n other)
 
   -- where the places reply so, the protocol goes on
   pub request_stood : 1 ≤ settings.shards → (r : IsRequest script settings past e)
@@ -105,37 +138,30 @@ module _ (layout : Layout) (script : Script) (settings : Settings) (past : List 
       let answer : Answer = answer_said e.entries in
       let new : Node = takes settings script.catalog node (heard r.ask e.reply) answer in
       let stands : NodeStands script settings (length past) node s.world e.node = s.nodes e.node r.session r.is_session r.runs in
-      let post : is_post e.request ≡ false = request_no_post script settings past e r in
-      let goes : GoesFor layout setup settings s.world state entries (says_at settings script.catalog state.commits node (heard r.ask e.reply) answer) e.node new heeds.after =
-      steps_any layout setup settings some (length past) node stands.fits.todo stands.fits.doing e.node r.ask r.asked s.world state entries (heard r.ask e.reply) answer heeds.after b
-      heeds.serves r.means in
-      let said : says_at settings script.catalog state.commits node (heard r.ask e.reply) answer ≡ e.entries = sym r.told in
-      record {
-        world = goes.world;
-        reach = subst (λ (es : List Entry). Reach layout setup goes.world (state_after setup (entries_told (past ++ e ∷ []))) es) (sym (entries_more past e))
-            (subst (λ (x : SiState). Reach layout setup goes.world x (entries ++ e.entries)) (sym (state_more script settings past e))
-            (subst (λ (told : List Entry). Reach layout setup goes.world (state_from script.catalog state told) (entries ++ told)) said goes.reach));
-        store = subst (λ (p : Parts). StoreIs settings setup (past ++ e ∷ []) p) (sym goes.parts) heeds.store;
-        managers = subst (λ (p : Parts). ManagersAre settings (past ++ e ∷ []) p) (sym goes.parts) heeds.managers;
-        laid_out = goes.laid_out;
-        catalog = goes.catalog;
-        gone = λ n. goes.gone n ∙ s.gone n ∙ sym (vanished_same past e n post);
-        few = λ n g. s.few n (sym (goes.gone n) ∙ g);
-        nodes = λ n session h runs. by_node goes.world goes.node_is goes.others post n session h (sym (vanished_same past e n post) ∙ runs) (cases_eq e.node n);
-      }
-    where
-      by_node : (world : World)
-          → (let new : Node = takes settings script.catalog (node_after settings script past r.session) (heard r.ask e.reply) (answer_said e.entries) in
-          NodeIs (ReadsFor settings script.catalog new.todo) settings new world e.node)
-          → ((i : ℕ) → (e.node ≡ i → ⊥) → IsElsewhere s.world world i) → is_post e.request ≡ false
-          → (n : ℕ) (session : Session) → session_of script n ≡ Some session → has_vanished past n ≡ false → (e.node ≡ n) ⊎ (e.node ≡ n → ⊥)
-          → NodeStands script settings (length (past ++ e ∷ [])) (node_after settings script (past ++ e ∷ []) session) world n
-      by_node world is_so others post n session h runs (inl same) =
-          subst (λ (i : ℕ). NodeStands script settings (length (past ++ e ∷ [])) (node_after settings script (past ++ e ∷ []) session) world i) same
-          (subst (λ (x : Session). NodeStands script settings (length (past ++ e ∷ [])) (node_after settings script (past ++ e ∷ []) x) world e.node)
-          (some_same r.session session (sym r.is_session ∙ ap (session_of script) same ∙ h))
-          (own_stands layout script settings past e s world e.node r.session r.ask r.is_session r.runs refl post r.asked heeds.fits heeds.told (at, is_so)))
-      by_node world is_so others post n session h runs (inr other) =
-          still_stands layout script settings past e s world n session h runs
-          (of_other e.node (node_after settings script past session).number (not (is_post e.request)) (λ i. other (i ∙ (s.nodes n session h runs).is_so.number)))
-          (others n other)
+      let post : is_post e.request ≡ false = request_no_post script settings past e r.session r.ask r.bytes r.asked in
+      stood_by r.session r.is_session r.runs post new heeds.after
+      (after_own settings script e node r.ask state.commits (sym stands.is_so.number) post r.asked r.told)
+      (subst (λ (told : List Entry). GoesFor layout setup settings s.world state entries told e.node new heeds.after) (sym r.told)
+      (steps_any layout setup settings some (length past) node stands.fits.todo stands.fits.doing e.node r.ask r.asked s.world state entries (heard r.ask e.reply) answer heeds.after b
+      heeds.serves r.means))
+      heeds.store heeds.managers (takes_fit settings script.catalog (length past) node (heard r.ask e.reply) answer stands.fits heeds.fits heeds.told) at
+
+  -- and so where the node wants memory at the reply
+  pub cut_stood : (c : IsCut script settings past e)
+      → Before (ReadsFor settings script.catalog (node_after settings script past c.session).todo) layout (setup_of script settings) settings s.world
+      (state_after (setup_of script settings) (entries_told past)) (entries_told past) e.node (node_after settings script past c.session)
+      → Heeds script settings past e s.world e.node c.ask → Stood layout script settings (past ++ e ∷ [])
+  unfolding setup entries state
+  cut_stood c b heeds =
+      let node : Node = node_after settings script past c.session in
+      let answer : Answer = answer_said e.entries in
+      let new : Node = cut_short settings script.catalog node (heard c.ask e.reply) answer in
+      let stands : NodeStands script settings (length past) node s.world e.node = s.nodes e.node c.session c.is_session c.runs in
+      let post : is_post e.request ≡ false = request_no_post script settings past e c.session c.ask c.bytes c.asked in
+      stood_by c.session c.is_session c.runs post new heeds.after
+      (after_cut settings script e node c.ask (sym stands.is_so.number) post c.asked c.cut)
+      (subst (λ (told : List Entry). GoesFor layout setup settings s.world state entries told e.node new heeds.after) (sym c.told)
+      (cut_goes (ReadsFor settings script.catalog node.todo) layout setup settings node e.node c.ask c.asked s.world state entries (heard c.ask e.reply) answer heeds.after b heeds.serves c.no_end
+      (is_to_say settings script.catalog state.commits node (heard c.ask e.reply) answer e.entries c.cut)))
+      heeds.store heeds.managers
+      (record { least = stands.fits.least; greatest = stands.fits.greatest; todo = stands.fits.todo; doing = tt }) tt

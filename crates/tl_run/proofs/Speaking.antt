@@ -158,7 +158,7 @@ module _ (script : Script) (entries : List Entry) (session : Session) (node : No
       ∙ ap (λ k. slice_get (i.past ++ statement ∷ later) k) (ap length i.answers ∙ sym i.count)
       ∙ slice_here i.past statement later
 
-  next_passes : (p : Bound → Bool) (statement : Bound) (later : List Bound) → node.todo ≡ statement ∷ later → p statement ≡ true
+  pub next_passes : (p : Bound → Bool) (statement : Bound) (later : List Bound) → node.todo ≡ statement ∷ later → p statement ≡ true
       → NextPasses p script node.number entries
   next_passes p statement later todo h = ap (holds p) (next_is statement later todo) ∙ h
 

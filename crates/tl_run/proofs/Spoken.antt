@@ -17,11 +17,13 @@ use Rattle.tl_protocol.specs.Run.{Layout}
 use Rattle.tl_protocol.proofs.Frames.{some_same}
 use Rattle.tl_run.specs.declared.event.Event.{Event}
 use Rattle.tl_run.specs.Bytes.{heard}
-use Rattle.tl_run.specs.Journal.{IsPost, IsRequest, answer_said, entries_told, has_vanished, is_post, node_after, posts, session_of}
+use Rattle.tl_run.specs.Journal.{IsCut, IsPost, IsRequest, answer_said, entries_told, has_vanished, is_post, node_after, posts, session_of}
+use Rattle.tl_run.specs.Memory.{cut_short, unsaid}
 use Rattle.tl_run.specs.Node.{Node}
 use Rattle.tl_run.specs.Says.{says_at}
 use Rattle.tl_run.specs.Takes.{takes}
-use Rattle.tl_run.proofs.Elsewhere.{after_other, after_own, of_other, of_post}
+use Rattle.tl_run.proofs.CutSpoken.{cut_elsewhere, cut_speaks}
+use Rattle.tl_run.proofs.Elsewhere.{after_cut, after_other, after_own, is_to_say, of_other, of_post}
 use Rattle.tl_run.proofs.Logs.{entries_more, node_more, vanished_more}
 use Rattle.tl_run.proofs.Meets.{Before}
 use Rattle.tl_run.proofs.Present.{ReadsFor}
@@ -77,7 +79,7 @@ module _ (script : Script) (settings : Settings) (past : List Event) (e : Event)
       }
     where
       post : is_post e.request ≡ false
-      post = request_no_post script settings past e r
+      post = request_no_post script settings past e r.session r.ask r.bytes r.asked
 
       by_node : (node_after settings script past r.session).number ≡ e.node
           → SpeakIs script
@@ -98,7 +100,7 @@ module _ (script : Script) (settings : Settings) (past : List Event) (e : Event)
           ++ says_at settings script.catalog (state_after (setup_of script settings) (entries_told past)).commits (node_after settings script past r.session) (heard r.ask e.reply)
           (answer_said e.entries))
           r.session x)
-          (sym (node_more settings script past e r.session ∙ after_own settings script e (node_after settings script past r.session) r.ask (sym own) post r.asked)) on))
+          (sym (node_more settings script past e r.session ∙ after_own settings script e (node_after settings script past r.session) r.ask (state_after (setup_of script settings) (entries_told past)).commits (sym own) post r.asked r.told)) on))
       by_node own on n session h runs (inr other) =
           let node : Node = node_after settings script past session in
           let number : node.number ≡ n = (s.nodes n session h runs).is_so.number in
@@ -106,6 +108,48 @@ module _ (script : Script) (settings : Settings) (past : List Event) (e : Event)
           (subst (λ (es : List Entry). SpeakIs script (entries_told past ++ es) session node) (sym r.told)
           (speaks_elsewhere script settings (state_after (setup_of script settings) (entries_told past)).commits (entries_told past) session node (node_after settings script past r.session)
           (heard r.ask e.reply) (answer_said e.entries) (λ same. other (sym own ∙ same ∙ number)) (i.nodes n session h runs)))
+
+  -- after a request at whose reply the node wants memory
+  pub cut_spoken : (layout : Layout) (s : Stood layout script settings past) (c : IsCut script settings past e) → (node_after settings script past c.session).number ≡ e.node
+      → Spoken script settings (past ++ e ∷ [])
+  cut_spoken layout s c own =
+      record {
+        along = told_more (subst (λ (es : List Entry). Along (SpeaksAt script settings) (entries_told past) es) (sym c.told) on.0);
+        nodes = λ n session h runs. by_node n session h (sym (vanished_same past e n post) ∙ runs) (cases_eq e.node n);
+        gone = λ n h. gone_before n (sym (vanished_same past e n post) ∙ h);
+      }
+    where
+      post : is_post e.request ≡ false
+      post = request_no_post script settings past e c.session c.ask c.bytes c.asked
+
+      node : Node
+      node = node_after settings script past c.session
+
+      told : List Entry
+      told = unsaid (says_at settings script.catalog (state_after (setup_of script settings) (entries_told past)).commits node (heard c.ask e.reply) (answer_said e.entries))
+
+      on : Along (SpeaksAt script settings) (entries_told past) told
+          × SpeakIs script (entries_told past ++ told) c.session (cut_short settings script.catalog node (heard c.ask e.reply) (answer_said e.entries))
+      on =
+          cut_speaks script settings (state_after (setup_of script settings) (entries_told past)).commits (entries_told past) c.session node (heard c.ask e.reply) (answer_said e.entries)
+          (i.nodes e.node c.session c.is_session c.runs) c.no_end
+          (is_to_say settings script.catalog (state_after (setup_of script settings) (entries_told past)).commits node (heard c.ask e.reply) (answer_said e.entries) e.entries c.cut)
+
+      by_node : (n : ℕ) (session : Session) → session_of script n ≡ Some session → has_vanished past n ≡ false → (e.node ≡ n) ⊎ (e.node ≡ n → ⊥)
+          → SpeakIs script (entries_told (past ++ e ∷ [])) session (node_after settings script (past ++ e ∷ []) session)
+      by_node n session h runs (inl same) =
+          subst (λ (x : Session). SpeakIs script (entries_told (past ++ e ∷ [])) x (node_after settings script (past ++ e ∷ []) x))
+          (some_same c.session session (sym c.is_session ∙ ap (session_of script) same ∙ h))
+          (subst (λ (es : List Entry). SpeakIs script es c.session (node_after settings script (past ++ e ∷ []) c.session)) (ap (λ (es : List Entry). entries_told past ++ es) (sym c.told) ∙ sym (entries_more past e))
+          (subst (λ (x : Node). SpeakIs script (entries_told past ++ told) c.session x)
+          (sym (node_more settings script past e c.session ∙ after_cut settings script e node c.ask (sym own) post c.asked c.cut)) on.1))
+      by_node n session h runs (inr other) =
+          let its : Node = node_after settings script past session in
+          let number : its.number ≡ n = (s.nodes n session h runs).is_so.number in
+          as_it_is session (of_other e.node its.number (not (is_post e.request)) (λ same. other (same ∙ number)))
+          (subst (λ (es : List Entry). SpeakIs script (entries_told past ++ es) session its) (sym c.told)
+          (cut_elsewhere script settings (state_after (setup_of script settings) (entries_told past)).commits (entries_told past) session its node
+          (heard c.ask e.reply) (answer_said e.entries) (λ same. other (sym own ∙ same ∙ number)) (i.nodes n session h runs)))
 
   -- after a death notice
   pub post_spoken : IsPost script settings past e → Spoken script settings (past ++ e ∷ [])

@@ -10,13 +10,11 @@ use Rattle.tl_protocol.specs.World.{World, runs}
 use Rattle.tl_protocol.specs.Run.{Layout, Reach}
 use Rattle.tl_run.specs.declared.event.Event.{Event}
 use Rattle.tl_run.specs.Ask.{Ask}
-use Rattle.tl_run.specs.Asks.{asks}
 use Rattle.tl_run.specs.Bytes.{heard}
-use Rattle.tl_run.specs.Journal.{answer_said, entries_told, has_vanished, is_post, node_after, posts, session_of}
+use Rattle.tl_run.specs.Journal.{after_event, entries_told, has_vanished, is_post, node_after, posts, session_of}
 use Rattle.tl_run.specs.Node.{Node}
 use Rattle.tl_run.specs.Served.{Parts, Serves, parts_of}
-use Rattle.tl_run.specs.Takes.{takes}
-use Rattle.tl_run.proofs.Elsewhere.{after_other, after_own, node_elsewhere}
+use Rattle.tl_run.proofs.Elsewhere.{after_other, node_elsewhere}
 use Rattle.tl_run.proofs.Fits.{HeardFits}
 use Rattle.tl_run.proofs.Goings.{IsElsewhere}
 use Rattle.tl_run.proofs.Logs.{node_more, vanished_more}
@@ -24,7 +22,7 @@ use Rattle.tl_run.proofs.Managers.{ManagersAre}
 use Rattle.tl_run.proofs.Meets.{IsLaidOut, NodeIs}
 use Rattle.tl_run.proofs.Present.{ReadsFor}
 use Rattle.tl_run.proofs.Shards.{DoingAt}
-use Rattle.tl_run.proofs.Sizes.{NodeFits, ToldFits, fits_more, takes_fit}
+use Rattle.tl_run.proofs.Sizes.{NodeFits, ToldFits, fits_more}
 use Rattle.tl_run.proofs.Store.{StoreIs}
 use Rattle.tl_run.proofs.StoreEvents.{length_next}
 
@@ -90,22 +88,16 @@ module _ (layout : Layout) (script : Script) (settings : Settings) (past : List 
         shards = stands.shards;
       })
 
-  -- the node that made the request
-  pub own_stands : (world : World) (n : ℕ) (session : Session) (ask : Ask) → session_of script n ≡ Some session → has_vanished past n ≡ false → e.node ≡ n → is_post e.request ≡ false
-      → asks settings script.catalog (node_after settings script past session) ≡ Some ask
-      → HeardFits (length past + 1) (heard ask e.reply) → ToldFits (heard ask e.reply)
-      → (let new : Node = takes settings script.catalog (node_after settings script past session) (heard ask e.reply) (answer_said e.entries) in
-      DoingAt settings new.doing × NodeIs (ReadsFor settings script.catalog new.todo) settings new world n)
+  -- the node that made the request, which leads it to this
+  pub own_stands : (world : World) (n : ℕ) (session : Session) (new : Node) → session_of script n ≡ Some session → has_vanished past n ≡ false
+      → after_event settings script e (node_after settings script past session) ≡ new → NodeFits settings script.catalog (length past + 1) new → DoingAt settings new.doing
+      → NodeIs (ReadsFor settings script.catalog new.todo) settings new world n
       → NodeStands script settings (length (past ++ e ∷ [])) (node_after settings script (past ++ e ∷ []) session) world n
-  own_stands world n session ask h runs at post asked fits told is_so =
-      let node : Node = node_after settings script past session in
-      let new : Node = takes settings script.catalog node (heard ask e.reply) (answer_said e.entries) in
-      let stands = s.nodes n session h runs in
+  own_stands world n session new h runs goes fits at is_so =
       subst (λ x. NodeStands script settings (length (past ++ e ∷ [])) x world n)
-      (sym (node_more settings script past e session ∙ after_own settings script e node ask (at ∙ sym stands.is_so.number) post asked))
+      (sym (node_more settings script past e session ∙ goes))
       (record {
-        is_so = is_so.1;
-        shards = is_so.0;
-        fits = subst (λ few. NodeFits settings script.catalog few new) (sym (length_next past e))
-            (takes_fit settings script.catalog (length past) node (heard ask e.reply) (answer_said e.entries) stands.fits fits told);
+        is_so = is_so;
+        shards = at;
+        fits = subst (λ few. NodeFits settings script.catalog few new) (sym (length_next past e)) fits;
       })

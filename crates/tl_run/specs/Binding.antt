@@ -52,7 +52,7 @@ pub record WriteFits (w : Write) : Type 0 where
   pub row : AreChanges w.row
   pub brief : IsBrief w.row
 
--- literals that key columns are compared with are of their columns' types
+-- the literals of WHERE are values
 abbrev pub EditCompares : Edit → Type 0
 EditCompares (Insert number rows) = Unit {0}
 EditCompares (Update number sets where_) = ComparesValues where_

@@ -34,7 +34,8 @@ use Rattle.tl_run.specs.Ask.{Ask}
 use Rattle.tl_run.specs.Bytes.{commits_key, heard, home_of, place_of, written}
 use Rattle.tl_run.specs.Node.{Node, opening_node, owed_by}
 use Rattle.tl_run.specs.Asks.{asks}
-use Rattle.tl_run.specs.Takes.{MayMean, takes}
+use Rattle.tl_run.specs.Memory.{is_cut, is_ending, node_then, unsaid}
+use Rattle.tl_run.specs.Takes.{MayMean}
 use Rattle.tl_run.specs.Says.{says_at}
 
 -- what the cells of the store hold at the opening, in the order in which they are stored
@@ -82,7 +83,7 @@ is_post r = false
 
 abbrev pub takes_reply : Settings → Script → Node → Option Ask → Reply → List Entry → Node
 takes_reply settings script node None told entries = node
-takes_reply settings script node (Some ask) told entries = takes settings script.catalog node (heard ask told) (answer_said entries)
+takes_reply settings script node (Some ask) told entries = node_then settings script.catalog node (heard ask told) (answer_said entries) entries
 
 -- a node, after an event: its own requests alone concern it
 abbrev pub after_event : Settings → Script → Event → Node → Node
@@ -125,6 +126,22 @@ pub record IsRequest (script : Script) (settings : Settings) (past : List Event)
       ≡ says_at settings script.catalog (state_after (setup_of script settings) (entries_told past)).commits (node_after settings script past session)
       (heard ask e.reply) (answer_said e.entries)
 
+-- a request at whose reply the node wants memory: nothing is said, but what follows from the event is told all the same
+pub record IsCut (script : Script) (settings : Settings) (past : List Event) (e : Event) : Type 0 where
+  pub session : Session
+  pub is_session : session_of script e.node ≡ Some session
+  pub runs : has_vanished past e.node ≡ false
+  pub ask : Ask
+  pub asked : asks settings script.catalog (node_after settings script past session) ≡ Some ask
+  pub stands_at : e.place ≡ place_of settings ask
+  pub bytes : e.request ≡ written ask
+  pub no_end : is_ending (node_after settings script past session).doing ≡ false
+  pub cut : is_cut settings script.catalog (node_after settings script past session) (heard ask e.reply) (answer_said e.entries) e.entries ≡ true
+  pub told : e.entries
+      ≡ unsaid
+      (says_at settings script.catalog (state_after (setup_of script settings) (entries_told past)).commits (node_after settings script past session)
+      (heard ask e.reply) (answer_said e.entries))
+
 -- a node vanishes: its death notice stands at its manager, and names the nodes that it was to recover
 pub record IsPost (script : Script) (settings : Settings) (past : List Event) (e : Event) : Type 0 where
   pub session : Session
@@ -136,7 +153,7 @@ pub record IsPost (script : Script) (settings : Settings) (past : List Event) (e
   pub told : e.entries ≡ entry.Vanished e.node ending ∷ []
 
 abbrev pub IsEvent : Script → Settings → List Event → Event → Type 0
-IsEvent script settings past e = IsRequest script settings past e ⊎ IsPost script settings past e
+IsEvent script settings past e = IsRequest script settings past e ⊎ (IsPost script settings past e ⊎ IsCut script settings past e)
 
 -- a shard serves a request to the store, and a manager one to a manager
 abbrev pub IsCall : PlaceId → Request → Reply → Type 0

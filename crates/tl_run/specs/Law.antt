@@ -1,33 +1,38 @@
 -- The law of journals: whatever the turns of the nodes' requests, whichever nodes vanish between any two and whoever recovers them.
-use Rattle.std.specs.Prelude.{◌≡◌, ℕ, ◌<◌, ◌≤◌, ◌^◌, true, List, [], ◌++◌, length, Some}
+use Rattle.std.specs.Prelude.{◌≡◌, ℕ, ◌<◌, ◌≤◌, ◌^◌, true, List, [], ◌∷◌, ◌++◌, length, Option, Some, None}
+use Rattle.std.specs.List.{AllByRecursion}
 use Rattle.tl_base.specs.Along.{Along}
 use Rattle.tl_base.specs.declared.place.Settings.{Settings}
 use Rattle.tl_cells.specs.Place.{shard_of_key}
 use Rattle.tl_cells.specs.Serves.{cell_at}
 use Rattle.tl_descriptor.specs.Reading as sets
+use Rattle.tl_logrec.specs.Reading.{read_entry}
+use Rattle.tl_manager.specs.declared.active.Active.{Active}
+use Rattle.tl_manager.specs.Serves.{active_after}
+use Rattle.tl_manager.specs.Transactions.{tids_of}
 use Rattle.tl_isolation.specs.declared.script.Script.{Script}
 use Rattle.tl_isolation.specs.declared.script.Session.{Session}
 use Rattle.tl_isolation.specs.History.{IsHistory, state_after}
 use Rattle.tl_isolation.specs.Script.{IsAnswered, SpeaksAt, setup_of}
 use Rattle.tl_protocol.specs.Stands.{StandsFor}
-use Rattle.tl_protocol.specs.Store.{Key}
+use Rattle.tl_protocol.specs.Store.{Key, LogCell}
 use Rattle.tl_protocol.specs.World.{World}
 use Rattle.tl_versions.specs.Reading.{read_cell}
 use Rattle.tl_run.specs.declared.event.Event.{Event}
 use Rattle.tl_run.specs.Binding.{IsBound}
-use Rattle.tl_run.specs.Bytes.{commits_key}
-use Rattle.tl_run.specs.Journal.{entries_told, session_of, shard_log}
-use Rattle.tl_run.specs.Run.{IsJournal}
+use Rattle.tl_run.specs.Bytes.{commits_key, home_of, log_key}
+use Rattle.tl_run.specs.Journal.{entries_told, manager_log, session_of, shard_log}
+use Rattle.tl_run.specs.Run.{IsTrace}
 use Rattle.tl_run.specs.Schedule.{is_over}
 use Rattle.tl_run.specs.Served.{is_record_key}
 
--- a journal of a script that the reader lets through
+-- a trace of a script that the reader lets through; every journal is one (`IsJournal`)
 pub record IsRun (script : Script) (settings : Settings) (events : List Event) : Type 0 where
   pub bound : IsBound script settings
   pub shards : 1 ≤ settings.shards
   pub managers : 1 ≤ settings.managers
   pub few : length events < 2 ^ 32
-  pub journal : IsJournal script settings events
+  pub trace : IsTrace script settings events
 
 -- the entries that it tells are one history
 abbrev pub OneHistory : Type 0
@@ -44,14 +49,37 @@ abbrev pub SpeaksWhole : Type 0
 SpeaksWhole = (script : Script) (settings : Settings) (events : List Event) → IsRun script settings events
     → (node : ℕ) (session : Session) → session_of script node ≡ Some session → is_over script events node ≡ true → IsAnswered (entries_told events) session
 
--- what the cells of the shards hold after these events: of each record its versions, and the set of the finished transactions
-pub record AreCells (script : Script) (settings : Settings) (past : List Event) (w : World) : Type 0 where
-  pub records : (key : Key) → is_record_key key ≡ true
-      → read_cell (cell_at (shard_log settings (setup_of script settings) (shard_of_key key settings.shards) past) key).value ≡ Some (w.cells key).versions
-  pub commits : sets.read_set (cell_at (shard_log settings (setup_of script settings) (shard_of_key commits_key settings.shards) past) commits_key).value
-      ≡ Some w.commits.finished
+-- a log cell that was never stored has no bytes
+abbrev pub IsLogCell : ℕ → List ℕ → Option LogCell → Type 0
+IsLogCell tid bytes None = bytes ≡ []
+IsLogCell tid bytes (Some log) = (read_entry bytes ≡ Some log.entry) × (log.entry.tid ≡ tid)
 
--- after each event the cells of the shards stand for the tables of the history so far
+abbrev pub IsActive : Settings → (ℕ → Option Active) → ℕ → Active → Type 0
+IsActive settings active m x = (active x.node ≡ Some x) × (home_of settings x.node ≡ m)
+
+-- the number of what is active at a node, if there is something
+abbrev pub tids_in : Option Active → List ℕ
+tids_in None = []
+tids_in (Some x) = x.tid ∷ []
+
+-- the active transactions of a manager are those of its nodes, each once
+pub record AreActive (settings : Settings) (active : ℕ → Option Active) (m : ℕ) (xs : List Active) : Type 0 where
+  pub each : AllByRecursion (IsActive settings active m) xs
+  pub tids : (n : ℕ) → home_of settings n ≡ m → tids_of n xs ≡ tids_in (active n)
+
+-- what stands under this key in its shard after these events
+abbrev pub bytes_at : Script → Settings → List Event → Key → List ℕ
+bytes_at script settings past key = (cell_at (shard_log settings (setup_of script settings) (shard_of_key key settings.shards) past) key).value
+
+-- the shards and the managers hold after these events what this world has: of each record its versions, the set of the
+-- finished transactions, the log cells, the active transactions with their snapshots
+pub record Holds (script : Script) (settings : Settings) (past : List Event) (w : World) : Type 0 where
+  pub records : (key : Key) → is_record_key key ≡ true → read_cell (bytes_at script settings past key) ≡ Some (w.cells key).versions
+  pub commits : sets.read_set (bytes_at script settings past commits_key) ≡ Some w.commits.finished
+  pub logs : (tid : ℕ) → tid ≤ 2 ^ 62 → IsLogCell tid (bytes_at script settings past (log_key tid)) (w.logs tid)
+  pub active : (m : ℕ) → m < settings.managers → AreActive settings w.active m (active_after (manager_log m past))
+
+-- after each event what the shards and the managers hold stands for the tables of the history so far
 abbrev pub StoreStands : Type 0
 StoreStands = (script : Script) (settings : Settings) (past rest : List Event) → IsRun script settings (past ++ rest)
-    → (w : World) × AreCells script settings past w × StandsFor w (state_after (setup_of script settings) (entries_told past)) (entries_told past)
+    → (w : World) × Holds script settings past w × StandsFor w (state_after (setup_of script settings) (entries_told past)) (entries_told past)

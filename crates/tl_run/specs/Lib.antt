@@ -5,6 +5,7 @@ pub mod Node
 pub mod Asks
 pub mod Takes
 pub mod Says
+pub mod Memory
 pub mod Journal
 pub mod Served
 pub mod Binding

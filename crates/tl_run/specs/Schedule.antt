@@ -1,5 +1,6 @@
 -- When a node vanishes, and whose turn it is.
 use Rattle.std.specs.Prelude.{◌≡◌, ◌<◌, ◌⊎◌, ℕ, ◌-◌, ◌==◌, Bool, true, false, not, ◌&&◌, ◌||◌, nat_le, nat_lt, List, [], ◌∷◌, ◌++◌, Option, Some, None, filter, find, length, if◌then◌else◌}
+use Rattle.std.specs.List.{list_any}
 use Rattle.tl_base.specs.declared.place.Settings.{Settings}
 use Rattle.tl_base.specs.declared.store.StoreReply.{StoreReply}
 use Rattle.tl_base.specs.declared.store.StoreReply.TheVariants as stored
@@ -10,6 +11,8 @@ use Rattle.tl_manager.specs.declared.request.Request.{Request}
 use Rattle.tl_manager.specs.declared.request.Request.TheVariants as request
 use Rattle.tl_manager.specs.declared.request.Reply.{Reply}
 use Rattle.tl_manager.specs.declared.request.Reply.TheVariants as reply
+use Rattle.tl_isolation.specs.declared.entry.Entry.{Entry}
+use Rattle.tl_isolation.specs.declared.entry.Entry.TheVariants as entry
 use Rattle.tl_isolation.specs.declared.entry.Ending.{Ending}
 use Rattle.tl_isolation.specs.declared.entry.Ending.TheVariants as ending
 use Rattle.tl_isolation.specs.declared.script.Script.{Script}
@@ -79,11 +82,12 @@ is_done script events node = by (session_of script node)
 abbrev pub is_spent : Script → Settings → List Event → ℕ → Bool
 is_spent script settings events node = nat_le settings.budget (length (requests_of node events)) && not (is_done script events node)
 
--- a node ends as vanished exactly where its count is reached, and as spent only where its budget is and it has more to do
+-- a node ends as vanished exactly where its count is reached, and as spent only where its budget is and it has more to
+-- do; it wants memory only where it has more to do
 abbrev pub EndsSo : Script → Settings → List Event → ℕ → Ending → Type 0
 EndsSo script settings past node ending.Vanished = is_due script past node ≡ true
 EndsSo script settings past node ending.Spent = (is_due script past node ≡ false) × (is_spent script settings past node ≡ true)
-EndsSo script settings past node ending.OutOfMemory = is_due script past node ≡ false
+EndsSo script settings past node ending.OutOfMemory = (is_due script past node ≡ false) × (is_done script past node ≡ false)
 
 -- no request is made where the count is reached or the budget is used up
 abbrev pub MayAsk : Script → Settings → List Event → ℕ → Type 0
@@ -168,13 +172,27 @@ owes_notice script settings past = by (latest past)
         if not (is_post before.request) && (is_due script past before.node || is_spent script settings past before.node)
         then Some before.node else None
 
--- the event stands in the order of the schedule
+-- the event directly before gave no answer
+abbrev pub gave_none : List Event → Bool
+gave_none past = by (latest past)
+  where
+    is_answer : Entry → Bool
+    is_answer (entry.Said node bound said) = true
+    is_answer (entry.Answered node statement told) = true
+    is_answer e = false
+
+    by : Option Event → Bool
+    by None = false
+    by (Some before) = not (list_any is_answer before.entries)
+
+-- the event stands in the order of the schedule; a notice that isn't owed stands directly behind a request of its node
+-- only where the node wanted memory at the reply, and so gave no answer
 abbrev pub InTurn : Script → Settings → List Event → Event → Type 0
 InTurn script settings past e = by (owes_notice script settings past)
   where
     by : Option ℕ → Type 0
     by (Some node) = (e.node ≡ node) × (is_post e.request ≡ true)
-    by None = (is_behind past e ≡ true) ⊎ (turn_at script past (clock_after script past) ≡ Some e.node)
+    by None = ((is_behind past e ≡ true) × (gave_none past ≡ true)) ⊎ (turn_at script past (clock_after script past) ≡ Some e.node)
 
 -- no place replies that it is full, or that a transaction isn't active
 abbrev pub is_refusal : Reply → Bool
