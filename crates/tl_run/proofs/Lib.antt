@@ -1,3 +1,4 @@
+pub mod Accepted
 pub mod Asking
 pub mod Attempts
 pub mod Begins
@@ -7,6 +8,7 @@ pub mod CutSpoken
 pub mod Dispatch
 pub mod Elsewhere
 pub mod Ends
+pub mod Examples
 pub mod Facts
 pub mod Fits
 pub mod Goings
@@ -31,6 +33,8 @@ pub mod Posted
 pub mod Present
 pub mod ReadSizes
 pub mod Records
+pub mod Recovered
+pub mod RecoveredServed
 pub mod Recoveries
 pub mod Requests
 pub mod RowSizes
@@ -50,5 +54,6 @@ pub mod StorePages
 pub mod StoreRanges
 pub mod StoreServes
 pub mod StoreStays
+pub mod Together
 pub mod Unsaid
 pub mod Vanishes
