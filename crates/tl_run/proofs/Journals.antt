@@ -1,25 +1,30 @@
 -- The law of journals, event by event.
 use Rattle.std.proofs.Common.{◌≡◌, ℕ, ◌+◌, ◌<◌, ◌≤◌, Bool, true, false, List, [], ◌∷◌, ◌++◌, length, Option, None, Some, refl, sym, ap, ◌∙◌, subst, inl, inr, ⊎_elim, append_assoc, append-nil, arith}
-use Rattle.std.specs.Prelude.{◌^◌, nat_le}
+use Rattle.std.specs.Prelude.{◌^◌, ◌-◌, nat_le}
+use Rattle.std.proofs.lemmas.Nat.{mod_below}
 use Rattle.std.specs.List.{list_any}
 use Rattle.std.proofs.lemmas.Bool.{both_ways, or_cases}
 use Rattle.std.proofs.lemmas.Bool.Decides.{nat_tests}
 use Rattle.std.proofs.lemmas.List.{length-append}
 use Rattle.tl_base.specs.Along.{Along}
+use Rattle.tl_base.specs.declared.node.NodeSet.{NodeSet}
 use Rattle.tl_base.specs.declared.place.Settings.{Settings}
+use Rattle.tl_manager.specs.Serves.{notice_after}
 use Rattle.tl_isolation.specs.declared.script.Script.{Script}
 use Rattle.tl_isolation.specs.declared.script.Session.{Session}
-use Rattle.tl_isolation.specs.Script.{IsAnswered, answers_by, vanishes_at}
+use Rattle.tl_isolation.specs.Script.{setup_of, IsAnswered, answers_by, vanishes_at}
 use Rattle.tl_cells.specs.declared.cell.Cell.{Cell as ShardCell}
 use Rattle.tl_protocol.specs.Store.{LogCell}
 use Rattle.tl_run.specs.declared.event.Event.{Event}
 use Rattle.tl_run.specs.Binding.{IsBound}
-use Rattle.tl_run.specs.Journal.{AreServed, IsEvent, answer_said, entries_told, has_vanished, node_after, session_of}
-use Rattle.tl_run.specs.Bytes.{heard}
-use Rattle.tl_run.specs.Law.{IsLogCell, IsRun}
+use Rattle.tl_run.specs.Journal.{AreServed, IsEvent, answer_said, entries_told, has_vanished, manager_log, node_after, session_of}
+use Rattle.tl_run.specs.Bytes.{heard, home_of, log_key}
+use Rattle.tl_run.specs.Law.{Holds, IsLogCell, IsNotice, IsRun}
 use Rattle.tl_run.specs.Node.{Node}
 use Rattle.tl_run.specs.Schedule.{is_done, is_over}
 use Rattle.tl_run.proofs.Heeded.{heeded}
+use Rattle.tl_run.proofs.Managers.{NoticeIs}
+use Rattle.tl_run.proofs.Owed.{owed_is}
 use Rattle.tl_run.proofs.Opens.{found_number, layout_of, opens}
 use Rattle.tl_run.proofs.Posted.{before_stood, post_stood}
 use Rattle.tl_run.proofs.Requests.{cut_stood, request_stood}
@@ -27,6 +32,7 @@ use Rattle.tl_run.proofs.Shards.{takes_at}
 use Rattle.tl_run.proofs.Speaking.{SpeakIs, opening_speaks}
 use Rattle.tl_run.proofs.Spoken.{Spoken, cut_spoken, post_spoken, request_spoken}
 use Rattle.tl_run.proofs.Store.{LogIs}
+use Rattle.tl_run.proofs.StoreLogs.{cell_in}
 use Rattle.tl_run.proofs.StoreEvents.{length_next}
 use Rattle.tl_run.proofs.Stood.{Stood}
 
@@ -142,3 +148,23 @@ module _ (script : Script) (settings : Settings) where
 pub log_cell_is : (tid : ℕ) (c : ShardCell) (o : Option LogCell) → LogIs tid c o → IsLogCell tid c.value o
 log_cell_is tid c None h = h.1
 log_cell_is tid c (Some x) h = (h.read, h.own)
+
+notice_is : (o : Option (ℕ → Bool)) (found : Option NodeSet) → NoticeIs o found → IsNotice o found
+notice_is None None h = tt
+notice_is None (Some set) h = absurd h
+notice_is (Some nodes) None h = absurd h
+notice_is (Some nodes) (Some set) h = h.0
+
+-- so after each front of a run the places and the nodes hold what the world has
+pub holds_at : (script : Script) (settings : Settings) (past : List Event) (s : Stood (layout_of script settings) script settings past) → Holds script settings past s.world
+holds_at script settings past s = record {
+  records = λ key is_record. (s.store.holds.cells key is_record).read;
+  commits = s.store.holds.commits.read;
+  logs = λ tid small. log_cell_is tid (cell_in settings (setup_of script settings) past (log_key tid)) (s.world.logs tid) (s.store.holds.logs tid small);
+  active = λ m l. (s.managers.each m l).active;
+  notices = λ n. notice_is (s.world.notices n) (notice_after (manager_log (home_of settings n) past) n)
+      ((s.managers.each (home_of settings n) (mod_below (n - 1) settings.managers s.laid_out.some)).notices n refl);
+  vanished = s.gone;
+  duties = λ n session h runs. let node : Node = node_after settings script past session in
+      owed_is node.doing (s.world.recoveries n) (s.nodes n session h runs).is_so.recovery;
+}

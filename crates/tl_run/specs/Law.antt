@@ -1,30 +1,33 @@
 -- The law of journals: whatever the turns of the nodes' requests, whichever nodes vanish between any two and whoever recovers them.
-use Rattle.std.specs.Prelude.{◌≡◌, ℕ, ◌<◌, ◌≤◌, ◌^◌, true, List, [], ◌∷◌, ◌++◌, length, Option, Some, None}
+use Rattle.std.specs.Prelude.{◌≡◌, ℕ, ◌<◌, ◌≤◌, ◌^◌, Bool, false, true, List, [], ◌∷◌, ◌++◌, length, Option, Some, None}
 use Rattle.std.specs.List.{AllByRecursion}
 use Rattle.tl_base.specs.Along.{Along}
+use Rattle.tl_base.specs.declared.node.NodeSet.{NodeSet}
 use Rattle.tl_base.specs.declared.place.Settings.{Settings}
 use Rattle.tl_cells.specs.Place.{shard_of_key}
 use Rattle.tl_cells.specs.Serves.{cell_at}
 use Rattle.tl_descriptor.specs.Reading as sets
 use Rattle.tl_logrec.specs.Reading.{read_entry}
 use Rattle.tl_manager.specs.declared.active.Active.{Active}
-use Rattle.tl_manager.specs.Serves.{active_after}
+use Rattle.tl_manager.specs.Serves.{active_after, notice_after}
 use Rattle.tl_manager.specs.Transactions.{tids_of}
 use Rattle.tl_isolation.specs.declared.script.Script.{Script}
 use Rattle.tl_isolation.specs.declared.script.Session.{Session}
 use Rattle.tl_isolation.specs.History.{IsHistory, state_after}
 use Rattle.tl_isolation.specs.Script.{IsAnswered, SpeaksAt, setup_of}
-use Rattle.tl_protocol.specs.Stands.{StandsFor}
+use Rattle.tl_protocol.specs.Next.{owed}
+use Rattle.tl_protocol.specs.Stands.{HasOneMender, StandsFor}
 use Rattle.tl_protocol.specs.Store.{Key, LogCell}
 use Rattle.tl_protocol.specs.World.{World}
 use Rattle.tl_versions.specs.Reading.{read_cell}
 use Rattle.tl_run.specs.declared.event.Event.{Event}
 use Rattle.tl_run.specs.Binding.{IsBound}
 use Rattle.tl_run.specs.Bytes.{commits_key, home_of, log_key}
-use Rattle.tl_run.specs.Journal.{entries_told, manager_log, session_of, shard_log}
+use Rattle.tl_run.specs.Journal.{entries_told, has_vanished, manager_log, node_after, session_of, shard_log}
+use Rattle.tl_run.specs.Node.{owed_by}
 use Rattle.tl_run.specs.Run.{IsTrace}
 use Rattle.tl_run.specs.Schedule.{is_over}
-use Rattle.tl_run.specs.Served.{is_record_key}
+use Rattle.tl_run.specs.Served.{AreNodes, is_record_key}
 
 -- a trace of a script that the reader lets through; every journal is one (`IsJournal`)
 pub record IsRun (script : Script) (settings : Settings) (events : List Event) : Type 0 where
@@ -67,19 +70,37 @@ pub record AreActive (settings : Settings) (active : ℕ → Option Active) (m :
   pub each : AllByRecursion (IsActive settings active m) xs
   pub tids : (n : ℕ) → home_of settings n ≡ m → tids_of n xs ≡ tids_in (active n)
 
+-- there is no notice, or it names these nodes
+abbrev pub IsNotice : Option (ℕ → Bool) → Option NodeSet → Type 0
+IsNotice None None = Unit {0}
+IsNotice None (Some set) = ⊥
+IsNotice (Some nodes) None = ⊥
+IsNotice (Some nodes) (Some set) = AreNodes nodes set
+
 -- what stands under this key in its shard after these events
 abbrev pub bytes_at : Script → Settings → List Event → Key → List ℕ
 bytes_at script settings past key = (cell_at (shard_log settings (setup_of script settings) (shard_of_key key settings.shards) past) key).value
 
--- the shards and the managers hold after these events what this world has: of each record its versions, the set of the
--- finished transactions, the log cells, the active transactions with their snapshots
+-- the shards, the managers and the nodes hold after these events what this world has: of each record its versions, the set
+-- of the finished transactions, the log cells, the active transactions with their snapshots, the death notices, and whom a
+-- running node is to recover
 pub record Holds (script : Script) (settings : Settings) (past : List Event) (w : World) : Type 0 where
   pub records : (key : Key) → is_record_key key ≡ true → read_cell (bytes_at script settings past key) ≡ Some (w.cells key).versions
   pub commits : sets.read_set (bytes_at script settings past commits_key) ≡ Some w.commits.finished
   pub logs : (tid : ℕ) → tid ≤ 2 ^ 62 → IsLogCell tid (bytes_at script settings past (log_key tid)) (w.logs tid)
   pub active : (m : ℕ) → m < settings.managers → AreActive settings w.active m (active_after (manager_log m past))
+  pub notices : (n : ℕ) → IsNotice (w.notices n) (notice_after (manager_log (home_of settings n) past) n)
+  pub vanished : (n : ℕ) → w.gone n ≡ has_vanished past n
+  pub duties : (n : ℕ) (session : Session) → session_of script n ≡ Some session → has_vanished past n ≡ false
+      → AreNodes (owed (w.recoveries n)) (owed_by (node_after settings script past session).doing)
 
 -- after each event what the shards and the managers hold stands for the tables of the history so far
 abbrev pub StoreStands : Type 0
 StoreStands = (script : Script) (settings : Settings) (past rest : List Event) → IsRun script settings (past ++ rest)
     → (w : World) × Holds script settings past w × StandsFor w (state_after (setup_of script settings) (entries_told past)) (entries_told past)
+
+-- each transaction that a vanished node left active has exactly one who mends it: a death notice that names the node, or a
+-- running node that is to recover it
+abbrev pub EachIsMended : Type 0
+EachIsMended = (script : Script) (settings : Settings) (past rest : List Event) → IsRun script settings (past ++ rest)
+    → (w : World) × Holds script settings past w × ((d : ℕ) (x : Active) → w.gone d ≡ true → w.active d ≡ Some x → HasOneMender w d)

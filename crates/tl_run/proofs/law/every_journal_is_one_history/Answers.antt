@@ -2,12 +2,10 @@ use Rattle.std.proofs.Common.{[], sym, append-nil, subst}
 use Rattle.tl_isolation.specs.Script.{setup_of}
 use Rattle.tl_isolation.specs.History.{state_after}
 use Rattle.tl_protocol.proofs.Reached.{reached}
-use Rattle.tl_protocol.proofs.Standing.{stands_for}
+use Rattle.tl_protocol.proofs.Standing.{one_mender, stands_for}
 use Rattle.tl_run.specs.Journal.{entries_told}
 use Rattle.tl_run.specs.Law.{IsRun}
-use Rattle.tl_run.proofs.Journals.{log_cell_is, spoken_at, spoken_whole, stood_at}
-use Rattle.tl_run.proofs.StoreLogs.{cell_in}
-use Rattle.tl_run.specs.Bytes.{log_key}
+use Rattle.tl_run.proofs.Journals.{holds_at, spoken_at, spoken_whole, stood_at}
 use Rattle.tl_run.proofs.law.every_journal_is_one_history.Goals as goal
 
 -- src/law.rt:5:1
@@ -32,11 +30,15 @@ pub returns-clause-stands : goal.returns-clause-stands
 returns-clause-stands c script settings past rest run =
     let s = stood_at script settings past rest run in (
       s.world,
-      record {
-        records = λ key is_record. (s.store.holds.cells key is_record).read;
-        commits = s.store.holds.commits.read;
-        logs = λ tid small. log_cell_is tid (cell_in settings (setup_of script settings) past (log_key tid)) (s.world.logs tid) (s.store.holds.logs tid small);
-        active = λ m l. (s.managers.each m l).active;
-      },
+      holds_at script settings past s,
       stands_for (setup_of script settings) s.world (state_after (setup_of script settings) (entries_told past)) (entries_told past) (reached run.bound.opening s.reach),
+    )
+
+-- src/law.rt:5:1
+pub returns-clause-mended : goal.returns-clause-mended
+returns-clause-mended c script settings past rest run =
+    let s = stood_at script settings past rest run in (
+      s.world,
+      holds_at script settings past s,
+      one_mender (setup_of script settings) s.world (state_after (setup_of script settings) (entries_told past)) (entries_told past) (reached run.bound.opening s.reach),
     )
