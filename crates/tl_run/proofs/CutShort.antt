@@ -1,7 +1,6 @@
 -- A node that wants memory at a reply at which it would answer says nothing; what follows from the event stands.
 use Rattle.std.proofs.Common.{◌≡◌, ℕ, Bool, true, false, inl, inr, List, [], ◌∷◌, Option, Some, None, refl, sym, ap, ◌∙◌, subst, ⊎_elim}
 use Rattle.std.specs.Prelude.{slice_set}
-use Rattle.tl_base.specs.declared.node.NodeSet.{NodeSet}
 use Rattle.tl_base.specs.declared.place.Settings.{Settings}
 use Rattle.tl_schema.specs.declared.catalog.Catalog.{Catalog}
 use Rattle.tl_schema.specs.declared.catalog.Setup.{Setup}
@@ -43,9 +42,9 @@ use Rattle.tl_run.specs.Takes.{after_reply, begins, goes_on, idles, learnt, next
 use Rattle.tl_run.specs.Says.{says_at, says_closing, says_commit, says_finishing, says_idle, says_inside, says_noted, says_outside, says_read, says_recovered, says_recovering, says_rival, says_storing}
 use Rattle.tl_run.specs.Served.{IsMark, Parts, Serves, begun_parts, parts_of}
 use Rattle.tl_run.specs.Memory.{cut_short, has_said, is_ending, unsaid}
-use Rattle.tl_run.proofs.Meets.{Before, Goes, PresentIs, RecoveryIs, StatementIs, orphan_of}
+use Rattle.tl_run.proofs.Meets.{Before, Goes, RecoveryIs, orphan_of}
 use Rattle.tl_run.proofs.Owed.{owed_is}
-use Rattle.tl_run.proofs.Goings.{going, is_floor, is_vanishing, mover, stops, turned, turned_learnt}
+use Rattle.tl_run.proofs.Goings.{going, is_floor, is_vanishing, mover, stops, turned, turned_learnt, present_of_stopped}
 
 -- ---- where nothing is said
 
@@ -172,10 +171,6 @@ duty_parts settings p after n c heard serves = by c.left serves
     by [] serves = sym serves.1
     by (d ∷ left) serves = sym serves.1
 
-present_stopped : (nodes : NodeSet) (todo : List Bound) → PresentIs (StatementIs (Stopped nodes)) todo
-present_stopped nodes [] = tt
-present_stopped nodes (statement ∷ later) = tt
-
 -- the node with these statements left, doing this
 abbrev so_far : Node → List Bound → Doing → Node
 so_far node todo doing = record node { todo = todo; doing = doing }
@@ -252,7 +247,7 @@ module _ (R : Txn → List Fact → Reads → Type 0) (layout : Layout) (setup :
         (going R layout setup settings w state entries node.number node b new after es first is_n on e p
         (turned_learnt R settings node new w (next w first) node.number m floor b.node_is refl f same tt
         (owed_is node.doing ((next w first).recoveries node.number) (subst (RecoveryIs node.doing) (sym r) b.node_is.recovery))
-        (present_stopped (owed_by node.doing) node.todo)))
+        (present_of_stopped (owed_by node.doing) node.todo)))
 
   -- ---- outside a transaction
 

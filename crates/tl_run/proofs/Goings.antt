@@ -233,6 +233,11 @@ is_floor settings w m copy floor o k = record {
     by (inl e) = inl e
     by (inr h) = inr (h.0, h.1, h.2, o.home h.0 ∙ h.3, h.4)
 
+-- a node that stopped is at any statement
+pub present_of_stopped : (nodes : NodeSet) (todo : List Bound) → PresentIs (StatementIs (Stopped nodes)) todo
+present_of_stopped nodes [] = tt
+present_of_stopped nodes (statement ∷ later) = tt
+
 module _ (R : Txn → List Fact → Reads → Type 0) (settings : Settings) where
   -- the node is so far, and has learnt nothing
   pub turned : (node new : Node) (w world : World) (n : ℕ) → NodeIs R settings node w n → new.number ≡ node.number → new.floors ≡ node.floors
@@ -259,10 +264,6 @@ module _ (R : Txn → List Fact → Reads → Type 0) (settings : Settings) wher
     managers = ap length f ∙ length-set node.floors m floor ∙ is.managers;
     floors = λ j x h. same j ∙ learnt_floors node.floors (w.floors n) m floor is.floors j x (ap (λ y. slice_get y j) (sym f) ∙ h);
   }
-
-  present_of_stopped : (nodes : NodeSet) (todo : List Bound) → PresentIs (StatementIs (Stopped nodes)) todo
-  present_of_stopped nodes [] = tt
-  present_of_stopped nodes (statement ∷ later) = tt
 
   -- a reply that no place of a run gives
   pub stopped_is : (node : Node) (w : World) (n : ℕ) → NodeIs R settings node w n → NodeIs R settings (stopped node) w n

@@ -1,7 +1,6 @@
 -- The law of journals, event by event.
 use Rattle.std.proofs.Common.{◌≡◌, ℕ, ◌+◌, ◌<◌, ◌≤◌, Bool, true, false, List, [], ◌∷◌, ◌++◌, length, Option, None, Some, refl, sym, ap, ◌∙◌, subst, inl, inr, ⊎_elim, append_assoc, append-nil, arith}
-use Rattle.std.specs.Prelude.{◌^◌, ◌-◌, nat_le}
-use Rattle.std.proofs.lemmas.Nat.{mod_below}
+use Rattle.std.specs.Prelude.{◌^◌, nat_le}
 use Rattle.std.specs.List.{list_any}
 use Rattle.std.proofs.lemmas.Bool.{both_ways, or_cases}
 use Rattle.std.proofs.lemmas.Bool.Decides.{nat_tests}
@@ -26,7 +25,7 @@ use Rattle.tl_run.proofs.Heeded.{heeded}
 use Rattle.tl_run.proofs.Managers.{NoticeIs}
 use Rattle.tl_run.proofs.Owed.{owed_is}
 use Rattle.tl_run.proofs.Opens.{found_number, layout_of, opens}
-use Rattle.tl_run.proofs.Posted.{before_stood, post_stood}
+use Rattle.tl_run.proofs.Posted.{before_stood, home_among, post_stood}
 use Rattle.tl_run.proofs.Requests.{cut_stood, request_stood}
 use Rattle.tl_run.proofs.Shards.{takes_at}
 use Rattle.tl_run.proofs.Speaking.{SpeakIs, opening_speaks}
@@ -163,7 +162,7 @@ holds_at script settings past s = record {
   logs = λ tid small. log_cell_is tid (cell_in settings (setup_of script settings) past (log_key tid)) (s.world.logs tid) (s.store.holds.logs tid small);
   active = λ m l. (s.managers.each m l).active;
   notices = λ n. notice_is (s.world.notices n) (notice_after (manager_log (home_of settings n) past) n)
-      ((s.managers.each (home_of settings n) (mod_below (n - 1) settings.managers s.laid_out.some)).notices n refl);
+      ((s.managers.each (home_of settings n) (home_among settings n s.laid_out.some)).notices n refl);
   vanished = s.gone;
   duties = λ n session h runs. let node : Node = node_after settings script past session in
       owed_is node.doing (s.world.recoveries n) (s.nodes n session h runs).is_so.recovery;

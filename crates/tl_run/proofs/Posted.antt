@@ -80,8 +80,8 @@ replies m asks (place.Manager k) (request.Manager r) (reply.Store p) h at asked_
 replies m asks (place.Manager k) (request.Manager r) (reply.Manager p) h at asked_so = (p, refl)
 
 -- the manager of a node is one of the managers
-home_below : (settings : Settings) (n : ℕ) → 1 ≤ settings.managers → home_of settings n < settings.managers
-home_below settings n some = mod_below (n - 1) settings.managers (omega arith)
+pub home_among : (settings : Settings) (n : ℕ) → 1 ≤ settings.managers → home_of settings n < settings.managers
+home_among settings n some = mod_below (n - 1) settings.managers (omega arith)
 
 posting : (asks : NodeSet) (n : ℕ) (r : Request) → r ≡ request.Manager (asked.Post n asks) → is_post r ≡ true
 posting asks n r e = ap is_post e
@@ -160,7 +160,7 @@ post_stood layout script settings past e rest s bound served post = record {
     is_so = posting (owed_by node.doing) e.node e.request post.notice
 
     home : home_of settings e.node < settings.managers
-    home = home_below settings e.node s.laid_out.some
+    home = home_among settings e.node s.laid_out.some
 
     told_so : e.reply ≡ reply.Manager told.Posted
     told_so =
