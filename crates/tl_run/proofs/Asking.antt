@@ -263,7 +263,8 @@ module _ (w : World) (a : Ledger) (g : Ghost) (v : Inv w a g) where
   ready_strange : (s : TidSet) (t m : ℕ) → Snap s g.finished → w.numbers t ≡ Ready m → has s t ≡ false
   ready_strange s t m k e = k.known.strange t (ready_not_done t m e)
 
-  newer_snap : (s t : TidSet) → Snap s g.finished → Snap t g.finished → Snap (newer s t) g.finished
+  -- of two known sets the newer one is known
+  pub newer_snap : (s t : TidSet) → Snap s g.finished → Snap t g.finished → Snap (newer s t) g.finished
   newer_snap s t p q = let r = newer_known s t p.m q.m g.finished p.known q.known in record { m = r.m; known = r.known }
 
   -- the opening set is known

@@ -71,7 +71,8 @@ manager_reply : (settings : Settings) (m : ℕ) (request : ManagerRequest) (p : 
 manager_reply settings m request (reply.Manager answer) h = (answer, refl)
 manager_reply settings m request (reply.Store answer) h = absurd h
 
-is_call : (place other : PlaceId) (request asked_so : Request) (p : Reply) → place ≡ other → request ≡ asked_so → IsCall place request p → IsCall other asked_so p
+-- the kind of the reply is that of what was asked
+pub is_call : (place other : PlaceId) (request asked_so : Request) (p : Reply) → place ≡ other → request ≡ asked_so → IsCall place request p → IsCall other asked_so p
 is_call place other request asked_so p at_place so h = subst (λ r. IsCall other r p) so (subst (λ x. IsCall x request p) at_place h)
 
 -- ---- what a shard tells fits

@@ -10,6 +10,7 @@ pub mod Elsewhere
 pub mod Ends
 pub mod Examples
 pub mod Facts
+pub mod FirstCommits
 pub mod Fits
 pub mod Goings
 pub mod Gone

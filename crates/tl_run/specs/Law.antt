@@ -1,5 +1,5 @@
 -- The law of journals: whatever the turns of the nodes' requests, whichever nodes vanish between any two and whoever recovers them.
-use Rattle.std.specs.Prelude.{◌≡◌, ℕ, ◌<◌, ◌≤◌, ◌^◌, Bool, false, true, List, [], ◌∷◌, ◌++◌, length, Option, Some, None}
+use Rattle.std.specs.Prelude.{◌≡◌, ℕ, ◌<◌, ◌≤◌, ◌^◌, Bool, false, true, List, [], ◌∷◌, ◌++◌, length, drop, take, Option, Some, None}
 use Rattle.std.specs.List.{AllByRecursion}
 use Rattle.tl_base.specs.Along.{Along}
 use Rattle.tl_base.specs.declared.node.NodeSet.{NodeSet}
@@ -7,17 +7,22 @@ use Rattle.tl_base.specs.declared.place.Settings.{Settings}
 use Rattle.tl_cells.specs.Place.{shard_of_key}
 use Rattle.tl_cells.specs.Serves.{cell_at}
 use Rattle.tl_descriptor.specs.Reading as sets
+use Rattle.tl_descriptor.specs.Tids.{TidSet, has}
 use Rattle.tl_logrec.specs.Reading.{read_entry}
 use Rattle.tl_manager.specs.declared.active.Active.{Active}
+use Rattle.tl_manager.specs.declared.request.ManagerReply.TheVariants as manager
+use Rattle.tl_manager.specs.declared.request.Reply.TheVariants as reply
 use Rattle.tl_manager.specs.Serves.{active_after, notice_after}
 use Rattle.tl_manager.specs.Transactions.{tids_of}
 use Rattle.tl_isolation.specs.declared.script.Script.{Script}
 use Rattle.tl_isolation.specs.declared.script.Session.{Session}
+use Rattle.tl_isolation.specs.declared.state.Commit.{Commit}
 use Rattle.tl_isolation.specs.History.{IsHistory, state_after}
 use Rattle.tl_isolation.specs.Script.{IsAnswered, SpeaksAt, setup_of}
 use Rattle.tl_protocol.specs.Next.{owed}
 use Rattle.tl_protocol.specs.Stands.{HasOneMender, StandsFor}
 use Rattle.tl_protocol.specs.Store.{Key, LogCell}
+use Rattle.tl_protocol.specs.Told.{count_in}
 use Rattle.tl_protocol.specs.World.{World}
 use Rattle.tl_versions.specs.Reading.{read_cell}
 use Rattle.tl_run.specs.declared.event.Event.{Event}
@@ -104,3 +109,15 @@ StoreStands = (script : Script) (settings : Settings) (past rest : List Event) �
 abbrev pub EachIsMended : Type 0
 EachIsMended = (script : Script) (settings : Settings) (past rest : List Event) → IsRun script settings (past ++ rest)
     → (w : World) × Holds script settings past w × ((d : ℕ) (x : Active) → w.gone d ≡ true → w.active d ≡ Some x → HasOneMender w d)
+
+-- of these commits the set has the first ones and no others
+abbrev pub AreFirst : TidSet → List Commit → Type 0
+AreFirst set commits =
+    let n = count_in set commits in
+    AllByRecursion (λ (c : Commit). has set c.tid ≡ true) (take n commits) × AllByRecursion (λ (c : Commit). has set c.tid ≡ false) (drop n commits)
+
+-- of the commits so far the snapshot of a transaction that begins has the first ones and no others
+abbrev pub FirstCommits : Type 0
+FirstCommits = (script : Script) (settings : Settings) (past : List Event) (e : Event) (rest : List Event) → IsRun script settings (past ++ e ∷ rest)
+    → (tid : ℕ) (snapshot floor : TidSet) → e.reply ≡ reply.Manager (manager.Began tid snapshot floor)
+    → AreFirst snapshot (state_after (setup_of script settings) (entries_told past)).commits

@@ -5,6 +5,7 @@ use Rattle.tl_protocol.proofs.Reached.{reached}
 use Rattle.tl_protocol.proofs.Standing.{one_mender, stands_for}
 use Rattle.tl_run.specs.Journal.{entries_told}
 use Rattle.tl_run.specs.Law.{IsRun}
+use Rattle.tl_run.proofs.FirstCommits.{first_commits}
 use Rattle.tl_run.proofs.Journals.{holds_at, spoken_at, spoken_whole, stood_at}
 use Rattle.tl_run.proofs.law.every_journal_is_one_history.Goals as goal
 
@@ -42,3 +43,7 @@ returns-clause-mended c script settings past rest run =
       holds_at script settings past s,
       one_mender (setup_of script settings) s.world (state_after (setup_of script settings) (entries_told past)) (entries_told past) (reached run.bound.opening s.reach),
     )
+
+-- src/law.rt:5:1
+pub returns-clause-first : goal.returns-clause-first
+returns-clause-first c script settings past e rest run tid snapshot floor told = first_commits script settings past e rest run tid snapshot floor told
