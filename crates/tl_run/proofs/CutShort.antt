@@ -1,4 +1,5 @@
--- A node that wants memory at a reply at which it would answer says nothing; what follows from the event stands.
+-- A node that wants memory at a reply at which it would answer or meet a rival says nothing; what else follows from the event
+-- stands.
 use Rattle.std.proofs.Common.{◌≡◌, ℕ, Bool, true, false, inl, inr, List, [], ◌∷◌, Option, Some, None, refl, sym, ap, ◌∙◌, subst, ⊎_elim}
 use Rattle.std.specs.Prelude.{slice_set}
 use Rattle.tl_base.specs.declared.place.Settings.{Settings}
@@ -37,8 +38,8 @@ use Rattle.tl_run.specs.Bytes.{home_of}
 use Rattle.tl_run.specs.Reads.{Read, Point, Range, Reads, all_reads, begin_reads, tables_read}
 use Rattle.tl_run.specs.Node.{Storing, Claimed, Lost, Doing, Outside, Noted, Inside, Reading, Trying, Stores, Closing, Recovering, Finishing, EndingLost, Stopped, Node, owed_by}
 use Rattle.tl_run.specs.Node as node_so
-use Rattle.tl_run.specs.Asks.{Course, ToBegin, ToRead, ToIdle, ToCommit, ToRecover, ask_floor, asks, asks_duty, asks_inside, asks_read, course_in}
-use Rattle.tl_run.specs.Takes.{after_reply, begins, goes_on, idles, learnt, next_duty, next_lost, said, stopped, takes_idle, takes_inside, takes_noted, takes_outside, takes_read, takes_recovering}
+use Rattle.tl_run.specs.Asks.{Course, ToBegin, ToRead, ToIdle, ToCommit, ToRecover, ask_floor, asks, asks_duty, asks_inside, asks_read, asks_storing, course_in}
+use Rattle.tl_run.specs.Takes.{after_reply, begins, finds, goes_on, idles, learnt, next_duty, next_lost, said, stopped, takes_idle, takes_inside, takes_noted, takes_outside, takes_read, takes_recovering, takes_storing}
 use Rattle.tl_run.specs.Says.{says_at, says_closing, says_commit, says_finishing, says_idle, says_inside, says_noted, says_outside, says_read, says_recovered, says_recovering, says_rival, says_storing}
 use Rattle.tl_run.specs.Served.{IsMark, Parts, Serves, begun_parts, parts_of}
 use Rattle.tl_run.specs.Memory.{cut_short, has_said, is_ending, unsaid}
@@ -52,14 +53,6 @@ quiet_commit : (t : Txn) (heard : Heard) → has_said (says_commit t heard) ≡ 
 quiet_commit t (Commits c) = refl
 quiet_commit t (Stored stamp) = refl
 quiet_commit t heard = refl
-
-quiet_storing : (s : Storing) (l : Option Loaded) (left : List Write) (heard : Heard) → has_said (says_storing s l left heard) ≡ false
-quiet_storing s None (o ∷ left) (Record cell) = by (stranger s.txn.snapshot cell.versions)
-  where
-    by : (rival : Option ℕ) → has_said (says_rival s rival) ≡ false
-    by None = refl
-    by (Some rival) = refl
-quiet_storing s l left heard = refl
 
 quiet_closing : (t : Txn) (d : Decision) (c : Option CommitsCell) (heard : Heard) → has_said (says_closing t d c heard) ≡ false
 quiet_closing t d (Some c) (Stored stamp) = by d
@@ -104,6 +97,14 @@ unsaid_recovered node c tids left = refl
 unsaid_recovering : (node : Node) (c : Claimed) (left : List ℕ) (heard : Heard) → unsaid (says_recovering node c left heard) ≡ []
 unsaid_recovering node c (d ∷ left) (Told (reply.Orphaned tids)) = unsaid_recovered node c tids left
 unsaid_recovering node c left heard = refl
+
+unsaid_storing : (s : Storing) (o : Write) (left : List Write) (heard : Heard) → unsaid (says_storing s None (o ∷ left) heard) ≡ []
+unsaid_storing s o left (Record cell) = by (stranger s.txn.snapshot cell.versions)
+  where
+    by : (rival : Option ℕ) → unsaid (says_rival s rival) ≡ []
+    by None = refl
+    by (Some rival) = refl
+unsaid_storing s o left heard = refl
 
 -- ---- low-water marks that stay
 
@@ -156,6 +157,14 @@ lost_floors node c d (tid ∷ others) = refl
 recovering_floors : (node : Node) (c : Claimed) (left : List ℕ) (heard : Heard) → (takes_recovering node c left heard).floors ≡ node.floors
 recovering_floors node c (d ∷ left) (Told (reply.Orphaned tids)) = lost_floors node (record c { left = left }) d tids
 recovering_floors node c left heard = refl
+
+storing_floors : (node : Node) (s : Storing) (o : Write) (left : List Write) (heard : Heard) → (takes_storing node s None (o ∷ left) heard).floors ≡ node.floors
+storing_floors node s o left (Record cell) = by (stranger s.txn.snapshot cell.versions)
+  where
+    by : (rival : Option ℕ) → (finds node s o.key cell rival).floors ≡ node.floors
+    by None = refl
+    by (Some rival) = refl
+storing_floors node s o left heard = refl
 
 -- ---- parts that stay
 
@@ -406,6 +415,28 @@ module _ (R : Txn → List Fact → Reads → Type 0) (layout : Layout) (setup :
         cuts_as now (asks_inside settings now t (course_in setup.catalog t.stage statement)) refl
         (inside_so (course_in setup.catalog t.stage statement))
 
+  -- ---- a node that stores its writes
+
+  -- the cell of the next own record was loaded: the world stays, and the transaction is where it was
+  storing_so : (w : World) (state : SiState) (entries : List Entry) (here : Node) (s : Storing) (after : Parts)
+      → Before R layout setup settings w state entries here.number here
+      → (l : Option Loaded) (left : List Write) (heard : Heard)
+      → Serves settings (parts_of w) here.number (asks_storing here (record s { left = left }) l) heard after
+      → CutsSo w state entries here (says_storing s l left heard) (takes_storing here s l left heard).floors after
+  storing_so w state entries here s after b None (o ∷ left) heard serves =
+      cut_stays w state entries here b (says_storing s None (o ∷ left) heard) (takes_storing here s None (o ∷ left) heard).floors after
+      (unsaid_storing s o left heard) (storing_floors here s o left heard) (sym serves.1)
+  storing_so w state entries here s after b None [] heard serves =
+      not_said w state entries here [] (takes_storing here s None [] heard).floors after refl
+  storing_so w state entries here s after b (Some l) left heard serves =
+      not_said w state entries here [] (takes_storing here s (Some l) left heard).floors after refl
+
+  storing : (node : Node) (statement : Bound) (later : List Bound) (s : Storing) (l : Option Loaded) → Cuts (so_far node (statement ∷ later) (Stores s l))
+  storing node statement later s l =
+      let here : Node = so_far node (statement ∷ later) (Stores s l) in
+      cuts_as here (asks_storing here s l) refl
+      (λ w state entries heard told after b serves. storing_so w state entries here s after b l s.left heard serves)
+
   -- ---- a node that recovers
 
   recovering : (node : Node) (statement : Bound) (later : List Bound) (c : Claimed) → Cuts (so_far node (statement ∷ later) (Recovering c))
@@ -467,7 +498,7 @@ module _ (R : Txn → List Fact → Reads → Type 0) (layout : Layout) (setup :
   cuts_doing node statement later (Inside t) e = inside node statement later t
   cuts_doing node statement later (Reading t reads) e = reading node statement later t reads
   cuts_doing node statement later (Trying t) e = cuts_quiet (so_far node (statement ∷ later) (Trying t)) (λ state heard told. quiet_commit t heard)
-  cuts_doing node statement later (Stores s l) e = cuts_quiet (so_far node (statement ∷ later) (Stores s l)) (λ state heard told. quiet_storing s l s.left heard)
+  cuts_doing node statement later (Stores s l) e = storing node statement later s l
   cuts_doing node statement later (Closing t d c) e = cuts_quiet (so_far node (statement ∷ later) (Closing t d c)) (λ state heard told. quiet_closing t d c heard)
   cuts_doing node statement later (node_so.Ending tid told) e = absurd cc
   cuts_doing node statement later (Recovering c) e = recovering node statement later c

@@ -105,7 +105,7 @@ after_then settings script e node ask i p a =
     same : (x y : ℕ) → x ≡ y → (x == y) ≡ true
     same x y e = eq-eqb x y e
 
--- whether a statement is said doesn't lie in what was committed
+-- whether an answer or a clash is to be told doesn't lie in what was committed
 doing_said : (settings : Settings) (catalog : Catalog) (commits : List Committed) (node : Node) (statement : Bound) (doing : Doing) (heard : Heard) (told : Answer)
     → has_said (says_doing settings catalog commits node statement doing heard told) ≡ has_said (says_doing settings catalog [] node statement doing heard told)
 doing_said settings catalog commits node statement (Noted seen) heard told = noted statement heard
@@ -132,7 +132,7 @@ whole_uncut settings catalog commits node heard told entries e =
     not_both : (a b : Bool) → b ≡ a → (a && not b) ≡ false
     not_both a b e = grind arith
 
--- a statement is to be said where one is cut
+-- an answer or a clash is to be told where a request is cut
 pub is_to_say : (settings : Settings) (catalog : Catalog) (commits : List Committed) (node : Node) (heard : Heard) (told : Answer) (entries : List Entry)
     → is_cut settings catalog node heard told entries ≡ true → has_said (says_at settings catalog commits node heard told) ≡ true
 is_to_say settings catalog commits node heard told entries e =

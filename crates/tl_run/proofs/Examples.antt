@@ -49,7 +49,8 @@ use Rattle.tl_run.specs.Ask.{Ask, LoadCommits, StoreCommits, LoadLog, StoreLog, 
 use Rattle.tl_run.specs.Reads.{Reads, begin_reads, read_of}
 use Rattle.tl_run.specs.Node.{Node, Outside, Inside, opening_node, owed_by}
 use Rattle.tl_run.specs.Asks.{asks, asks_read}
-use Rattle.tl_run.specs.Takes.{after_reply, own_said, takes, takes_read, view_changed, with_doing}
+use Rattle.tl_run.specs.Memory.{node_then}
+use Rattle.tl_run.specs.Takes.{after_reply, own_said, stopped, stores_first, takes, takes_read, view_changed, with_doing}
 use Rattle.tl_run.specs.Says.{says_at, says_read}
 
 -- ---- a node along what it hears
@@ -539,6 +540,16 @@ answers_conflict_first = ap (λ (n : Node). n.answers) walks_conflict_first.come
 
 pub answers_conflict_second : (node_by by_default bank (start_by 2 add_five) heard_conflict_second).answers ≡ answer.Begun ∷ answer.Changed 1 ∷ answer.Conflict 1 ∷ []
 answers_conflict_second = ap (λ (n : Node). n.answers) walks_conflict_second.comes_to
+
+-- where it wants memory at that load, it has met no rival: nothing is told, and it asks nothing more
+abbrev storing_second : Node
+storing_second =
+    record (changed_by 2 add_five (record { key = key 1; row = Some (with_balance 1 105) } ∷ [])) {
+      doing = stores_first (opened_txn 2 (record { key = key 1; row = Some (with_balance 1 105) } ∷ [])) 2;
+    }
+
+pub cut_at_rival : node_then by_default bank storing_second (cell_is 4 (version 1 1 90 ∷ version 0 1 100 ∷ [])) answer.Begun [] ≡ stopped storing_second
+cut_at_rival = refl
 
 -- ---- a recovery: node 1 sets all balances to 0 and vanishes after its second record store; node 2 recovers it
 

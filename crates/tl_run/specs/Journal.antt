@@ -126,7 +126,8 @@ pub record IsRequest (script : Script) (settings : Settings) (past : List Event)
       ≡ says_at settings script.catalog (state_after (setup_of script settings) (entries_told past)).commits (node_after settings script past session)
       (heard ask e.reply) (answer_said e.entries)
 
--- a request at whose reply the node wants memory: nothing is said, but what follows from the event is told all the same
+-- a request at whose reply the node wants memory: neither an answer nor a clash is told, but what else follows from the event
+-- is told all the same
 pub record IsCut (script : Script) (settings : Settings) (past : List Event) (e : Event) : Type 0 where
   pub session : Session
   pub is_session : session_of script e.node ≡ Some session

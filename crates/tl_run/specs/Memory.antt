@@ -1,4 +1,5 @@
--- A node that wants memory at a reply at which it would answer: what follows from the event stands all the same.
+-- A node that wants memory at a reply at which it would answer, or see whether there is a rival: what else follows from the
+-- event stands all the same.
 use Rattle.std.specs.Prelude.{◌&&◌, Bool, true, false, not, List, [], filter, if◌then◌else◌}
 use Rattle.std.specs.List.{list_any}
 use Rattle.tl_base.specs.declared.place.Settings.{Settings}
@@ -11,15 +12,18 @@ use Rattle.tl_run.specs.Node.{Doing, Ending, Node}
 use Rattle.tl_run.specs.Says.{says_at}
 use Rattle.tl_run.specs.Takes.{stopped, takes}
 
+-- what a node says of its own: what a statement answers, and which rival it met. Either is known once the reply is read,
+-- which takes memory
 abbrev pub is_said : Entry → Bool
 is_said (entry.Said node bound said) = true
+is_said (entry.Clash tid rival at) = true
 is_said e = false
 
--- whether a statement is said among the entries
+-- whether an answer or a clash is among the entries
 abbrev pub has_said : List Entry → Bool
 has_said entries = list_any is_said entries
 
--- the entries but what is said
+-- the entries but these
 abbrev pub unsaid : List Entry → List Entry
 unsaid entries = filter (λ (e : Entry). not (is_said e)) entries
 
@@ -32,7 +36,7 @@ is_ending doing = false
 abbrev pub cut_short : Settings → Catalog → Node → Heard → Answer → Node
 cut_short settings catalog node heard told = record (stopped node) { floors = (takes settings catalog node heard told).floors }
 
--- a statement is to be said at this reply, and isn't said
+-- an answer or a clash is to be told at this reply, and isn't told
 abbrev pub is_cut : Settings → Catalog → Node → Heard → Answer → List Entry → Bool
 is_cut settings catalog node heard told entries = has_said (says_at settings catalog [] node heard told) && not (has_said entries)
 
