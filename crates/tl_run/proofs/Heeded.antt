@@ -46,7 +46,7 @@ use Rattle.tl_run.proofs.Stood.{Heeds, Stood}
 -- ---- the kind of the reply
 
 -- a shard replies with what a store replies
-shard_reply : (settings : Settings) (ask : Ask) (p : Reply) → is_of_shard ask ≡ true → IsCall (place_of settings ask) (written ask) p
+pub shard_reply : (settings : Settings) (ask : Ask) (p : Reply) → is_of_shard ask ≡ true → IsCall (place_of settings ask) (written ask) p
     → (answer : StoreReply) × (p ≡ reply.Store answer)
 shard_reply settings LoadCommits (reply.Store answer) o h = (answer, refl)
 shard_reply settings (StoreCommits stamp set) (reply.Store answer) o h = (answer, refl)
@@ -71,7 +71,7 @@ manager_reply : (settings : Settings) (m : ℕ) (request : ManagerRequest) (p : 
 manager_reply settings m request (reply.Manager answer) h = (answer, refl)
 manager_reply settings m request (reply.Store answer) h = absurd h
 
-is_call : (place other : PlaceId) (request asked_so : Request) (p : Reply) → place ≡ other → request ≡ asked_so → IsCall place request p → IsCall other asked_so p
+pub is_call : (place other : PlaceId) (request asked_so : Request) (p : Reply) → place ≡ other → request ≡ asked_so → IsCall place request p → IsCall other asked_so p
 is_call place other request asked_so p at_place so h = subst (λ r. IsCall other r p) so (subst (λ x. IsCall x request p) at_place h)
 
 -- ---- what a shard tells fits

@@ -54,6 +54,8 @@ pub mod StorePages
 pub mod StoreRanges
 pub mod StoreServes
 pub mod StoreStays
+pub mod StrangeCounts
+pub mod StrangeLefts
 pub mod Together
 pub mod Unsaid
 pub mod Vanishes

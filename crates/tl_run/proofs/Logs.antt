@@ -85,7 +85,7 @@ at_event P [] x rest h = h.0
 at_event P (y ∷ past) x rest h = at_event P past x rest h.1
 
 -- what holds along a list holds at each of its places
-along_at : {A : Type 0} (P : List A → A → Type 0) (past xs : List A) (x : A) (ys : List A) → Along P past (xs ++ x ∷ ys) → P (past ++ xs) x
+pub along_at : {A : Type 0} (P : List A → A → Type 0) (past xs : List A) (x : A) (ys : List A) → Along P past (xs ++ x ∷ ys) → P (past ++ xs) x
 along_at P past [] x ys h = subst (λ p. P p x) (sym (append-nil past)) h.0
 along_at P past (y ∷ xs) x ys h = subst (λ p. P p x) (append_assoc past (y ∷ []) xs) (along_at P (past ++ y ∷ []) xs x ys h.1)
 

@@ -203,7 +203,7 @@ module _ (settings : Settings) (setup : Setup) (past : List Event) (e : Event) (
       }
 
   -- the reply is the one that the log calls for
-  follows_log : AreAnswered settings setup past e → (s : ℕ) → s < settings.shards → (asked : StoreRequest) (answer : StoreReply)
+  pub follows_log : AreAnswered settings setup past e → (s : ℕ) → s < settings.shards → (asked : StoreRequest) (answer : StoreReply)
       → IsCall e s (record { request = asked; reply = answer }) → answer ≡ reply_after 0 (shard_log settings setup s past) asked
   follows_log answers s lt asked answer is =
       let c : Call = record { request = asked; reply = answer } in
