@@ -56,6 +56,8 @@ pub mod StoreServes
 pub mod StoreStays
 pub mod StrangeCounts
 pub mod StrangeLefts
+pub mod StrangeOdd
+pub mod StrangeStops
 pub mod Together
 pub mod Unsaid
 pub mod Vanishes

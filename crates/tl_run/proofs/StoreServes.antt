@@ -69,7 +69,7 @@ log_heard tid c (Some x) h = by c.value refl
     by [] e = absurd (none_some (sym nothing ∙ ap read_entry (sym e) ∙ h.read))
     by (byte ∷ bytes) e = λ i. entry_in (h.stamp i) ((ap read_entry (sym e) ∙ h.read) i)
 
-log_fits : (tid : ℕ) (c : ShardCell) (o : Option LogCell) → LogIs tid c o → LogFits o
+pub log_fits : (tid : ℕ) (c : ShardCell) (o : Option LogCell) → LogIs tid c o → LogFits o
 log_fits tid c None h = tt
 log_fits tid c (Some x) h = h.fits
 
