@@ -57,6 +57,7 @@ pub mod StoreStays
 pub mod StrangeCounts
 pub mod StrangeLefts
 pub mod StrangeOdd
+pub mod StrangeReplies
 pub mod StrangeStops
 pub mod Together
 pub mod Unsaid

@@ -1,5 +1,5 @@
 -- A run is too short for a shard to be full: each event is one store at most, or one sum of at most 16.
-use Rattle.std.proofs.Common.{◌≡◌, ℕ, suc, ◌+◌, ◌*◌, ◌<◌, ◌≤◌, ◌^◌, Bool, true, false, cond, Less, Equal, Greater, List, [], ◌∷◌, ◌++◌, Some, length, map, refl, sym, ap, ◌∙◌, subst, inl, inr, arith}
+use Rattle.std.proofs.Common.{◌≡◌, ℕ, suc, ◌+◌, ◌*◌, ◌<◌, ◌≤◌, ◌^◌, Bool, true, false, Less, Equal, Greater, List, [], ◌∷◌, ◌++◌, Some, length, map, refl, sym, ap, subst, inl, inr, arith}
 use Rattle.std.specs.Prelude.{◌==◌, nat_eq, nat_lt, filter, flat_map, if◌then◌else◌}
 use Rattle.std.specs.Cmp.Lexicographic.{pointwise}
 use Rattle.std.specs.List.{AllByRecursion}
@@ -7,6 +7,7 @@ use Rattle.std.specs.Ordering.{match_ordering}
 use Rattle.std.proofs.lemmas.Bool.{eqb-true}
 use Rattle.std.proofs.lemmas.Bool.Decides.{nat_tests}
 use Rattle.std.proofs.lemmas.List.{length-append, length-map}
+use Rattle.std.proofs.lemmas.List.Sums.{count_by-le-length, length-filter}
 use Rattle.std.proofs.lemmas.Nat.{mod_below}
 use Rattle.tl_base.specs.Along.{Along}
 use Rattle.tl_base.specs.declared.place.PlaceId.{PlaceId}
@@ -101,14 +102,6 @@ opening_many : (n : ℕ) (cs : List (Key × List ℕ)) → length (stores_from n
 opening_many n [] = refl
 opening_many n (c ∷ cs) = ap suc (opening_many (n + 1) cs)
 
-kept_fewer : {A : Type 0} (p : A → Bool) (xs : List A) → length (filter p xs) ≤ length xs
-kept_fewer p [] = omega arith
-kept_fewer p (x ∷ xs) = by (p x) (kept_fewer p xs)
-  where
-    by : (b : Bool) → length (filter p xs) ≤ length xs → length (cond b (x ∷ filter p xs) (filter p xs)) ≤ suc (length xs)
-    by true h = omega arith
-    by false h = omega arith
-
 put_more : (w : Write) (ws : List Write) → length (put_write w ws) ≤ suc (length ws)
 put_more w [] = omega arith
 put_more w (x ∷ xs) =
@@ -130,7 +123,8 @@ opening_calls_many : (settings : Settings) (setup : Setup) (s : ℕ) → length 
 opening_calls_many settings setup s =
     let cs : List (Key × List ℕ) = filter (λ (c : Key × List ℕ). shard_of_key c.0 settings.shards == s) (opening_cells setup) in
     let calls : length (stores_from 0 cs) ≡ length cs = opening_many 0 cs in
-    let kept : length cs ≤ length (opening_cells setup) = kept_fewer (λ (c : Key × List ℕ). shard_of_key c.0 settings.shards == s) (opening_cells setup) in
+    let kept = length-filter (λ (c : Key × List ℕ). shard_of_key c.0 settings.shards == s) (opening_cells setup) in
+    let fewer = count_by-le-length (λ (c : Key × List ℕ). shard_of_key c.0 settings.shards == s) (opening_cells setup) in
     let each : length (map spelled (opening_writes setup.catalog setup.rows)) ≡ length (opening_writes setup.catalog setup.rows) = length-map (opening_writes setup.catalog setup.rows) spelled in
     let rows : length (opening_writes setup.catalog setup.rows) ≤ length setup.rows = rows_many setup.catalog setup.rows in
     omega arith

@@ -1,7 +1,8 @@
 -- A node that reads has something left to read, and one that recovers has a node left to see to.
-use Rattle.std.proofs.Common.{◌≡◌, ℕ, ◌≤◌, Bool, true, false, cond, List, [], ◌∷◌, Option, Some, None, refl, sym, ap, ◌∙◌, subst, arith}
+use Rattle.std.proofs.Common.{◌≡◌, ℕ, ◌≤◌, Bool, true, false, cond, List, [], ◌∷◌, Option, Some, None, refl, ◌∙◌, arith}
 use Rattle.std.specs.Prelude.{◌==◌, ◌&&◌, not, nat_le, nat_lt, if◌then◌else◌}
 use Rattle.std.specs.List.{AllByRecursion}
+use Rattle.std.proofs.lemmas.Bool.{and_from}
 use Rattle.std.proofs.lemmas.Bool.Decides.{nat_tests}
 use Rattle.tl_base.specs.NodeSet.{has_node, with_node}
 use Rattle.tl_base.specs.declared.node.NodeSet.{NodeSet}
@@ -28,7 +29,7 @@ use Rattle.tl_protocol.specs.Next.{begun_txn}
 use Rattle.tl_protocol.proofs.Held.{vanished_here}
 use Rattle.tl_run.specs.declared.event.Event.{Event}
 use Rattle.tl_run.specs.Binding.{StatementFits}
-use Rattle.tl_run.specs.Ask.{Ask, Heard, Commits, Log, Record, Page, Stored, Moved, Numbers, Told}
+use Rattle.tl_run.specs.Ask.{Ask, Heard, Commits, Log, Record, Stored, Moved, Numbers, Told}
 use Rattle.tl_run.specs.Asks.{Course, ToBegin, ToRead, ToIdle, ToCommit, ToGiveUp, ToRecover, asks, course_in, course_outside, reading_course, statement_course}
 use Rattle.tl_run.specs.Bytes.{heard, home_of}
 use Rattle.tl_run.specs.Journal.{after_event, answer_said, is_post, node_after, node_from, takes_reply}
@@ -83,11 +84,8 @@ some_left (x ∷ xs) d h = refl
 nodes_some : (also : NodeSet) (gone : ℕ) → 1 ≤ gone → gone ≤ 16 → is_empty (nodes_in (with_node also gone)) ≡ false
 nodes_some also gone least most =
     some_left (nodes_in (with_node also gone)) gone
-    (members_filter (has_node (with_node also gone)) all_nodes gone ∙ both (has_node (with_node also gone) gone) (members all_nodes gone) (vanished_here also gone) (members_count 1 16 gone ∙ within gone least most))
+    (members_filter (has_node (with_node also gone)) all_nodes gone ∙ and_from (has_node (with_node also gone) gone) (members all_nodes gone) (vanished_here also gone) (members_count 1 16 gone ∙ within gone least most))
   where
-    both : (x y : Bool) → x ≡ true → y ≡ true → (x && y) ≡ true
-    both x y e f = grind arith
-
     within : (d : ℕ) → 1 ≤ d → d ≤ 16 → (nat_le 1 d && nat_lt d 17) ≡ true
     within d l m = grind (arith, nat_tests)
 

@@ -1,8 +1,8 @@
 -- No place of a run tells a transaction number where it can't stand.
-use Rattle.std.proofs.Common.{◌≡◌, inl, inr, ℕ, ◌+◌, ◌<◌, ◌≤◌, ◌^◌, Bool, true, false, List, [], ◌∷◌, ◌++◌, Option, Some, None, refl, sym, ap, ◌∙◌, subst, arith}
-use Rattle.std.specs.Prelude.{◌==◌, ◌||◌, ◌&&◌, not, nat_lt}
-use Rattle.std.specs.List.{AllByRecursion, list_all, list_any}
-use Rattle.std.proofs.lemmas.Bool.{both_ways, eq-eqb, or_from}
+use Rattle.std.proofs.Common.{◌≡◌, inl, inr, ℕ, ◌+◌, ◌≤◌, ◌^◌, Bool, true, false, List, [], ◌∷◌, ◌++◌, Option, Some, None, refl, sym, ap, ◌∙◌, subst, arith}
+use Rattle.std.specs.Prelude.{◌==◌, not, nat_lt}
+use Rattle.std.specs.List.{list_all, list_any}
+use Rattle.std.proofs.lemmas.Bool.{and_from, both_ways, eq-eqb, or_from}
 use Rattle.std.proofs.lemmas.Bool.Decides.{nat_tests}
 use Rattle.tl_base.specs.declared.place.Settings.{Settings}
 use Rattle.tl_schema.specs.declared.catalog.Setup.{Setup}
@@ -26,19 +26,20 @@ use Rattle.tl_protocol.proofs.Finished.{is_done}
 use Rattle.tl_protocol.proofs.Inv.{NodeOk, base, shared}
 use Rattle.tl_protocol.proofs.Reached.{Reached, reached}
 use Rattle.tl_protocol.proofs.Steps.{node_at}
-use Rattle.tl_run.specs.Ask.{Ask, LoadCommits, StoreCommits, LoadLog, StoreLog, LoadRecord, StoreRecord, ReadPage, DrawNumbers, AskManager, Heard, Commits, Log, Record, Stored, Moved, Numbers, Told}
+use Rattle.tl_run.specs.Ask.{Ask, LoadCommits, StoreCommits, LoadLog, StoreLog, LoadRecord, StoreRecord, ReadPage, DrawNumbers, AskManager, Heard, Commits, Log, Told}
 use Rattle.tl_run.specs.Asks.{asks, asks_doing, asks_storing}
-use Rattle.tl_run.specs.Binding.{KeyFits}
 use Rattle.tl_run.specs.Node.{Storing, Claimed, Lost, Doing, Noted, Drawing, Inside, Stores, Closing, Recovering, ReadingLog, Node}
 use Rattle.tl_run.specs.Reads.{Reads}
 use Rattle.tl_run.specs.Served as served
 use Rattle.tl_run.specs.Served.{Answers, Parts, Serves, is_record_key, parts_of}
-use Rattle.tl_run.specs.Strange.{greatest_tid, is_odd_for, is_odd_log}
+use Rattle.tl_run.specs.Strange.{greatest_tid, is_odd_for}
 use Rattle.tl_run.proofs.Attempts.{by_store}
 use Rattle.tl_run.proofs.Fits.{KeysFit, LogFits}
 use Rattle.tl_run.proofs.Meets.{Before, PhaseIs, attempt_of}
 use Rattle.tl_run.proofs.OwnWrites.{not_before}
 use Rattle.tl_run.proofs.Sizes.{AreTids, DoingFits, ToldFits}
+use Rattle.tl_run.proofs.StrangeCounts.{HasRoom}
+use Rattle.tl_run.proofs.StrangeStops.{Replied}
 
 -- a number is not above the greatest one
 not_above : (tid most : ℕ) → tid ≤ most → nat_lt most tid ≡ false
@@ -50,10 +51,7 @@ none_above (tid ∷ tids) h = or_from (nat_lt greatest_tid tid) (list_any (nat_l
 
 all_records : (keys : List Key) → KeysFit keys → list_all is_record_key keys ≡ true
 all_records [] h = refl
-all_records (key ∷ keys) h = both (is_record_key key) (list_all is_record_key keys) h.0.is_record (all_records keys h.1)
-  where
-    both : (x y : Bool) → x ≡ true → y ≡ true → (x && y) ≡ true
-    both x y e f = grind arith
+all_records (key ∷ keys) h = and_from (is_record_key key) (list_all is_record_key keys) h.0.is_record (all_records keys h.1)
 
 -- what a manager tells fits
 noted_odd : (seen : TidSet) (heard : Heard) → ToldFits heard → is_odd_for (Noted seen) heard ≡ false
@@ -122,11 +120,6 @@ closing_odd c t d heard seen e = refl
 
 module _ (R : Txn → List Fact → Reads → Type 0) (layout : Layout) (setup : Setup) (settings : Settings) (w : World) (state : SiState)
     (entries : List Entry) (n : ℕ) (node : Node) (b : Before R layout setup settings w state entries n node) where
-  -- what is replied to a request, if there is one
-  abbrev Replied : Option Ask → Heard → Parts → Type 0
-  Replied None heard after = ⊥
-  Replied (Some ask) heard after = Serves settings (parts_of w) n ask heard after
-
   at_phase : (p : Phase) → w.phases n ≡ p → At w n p
   at_phase p e = record { runs = b.runs; so_far = e }
 
@@ -167,25 +160,25 @@ module _ (R : Txn → List Fact → Reads → Type 0) (layout : Layout) (setup :
   drawing_odd seen heard after (inl v) = subst (λ (x : Heard). is_odd_for (Drawing seen) x ≡ false) (sym v.0) (not_above (w.counter + 16) greatest_tid v.1)
   drawing_odd seen heard after (inr v) = subst (λ (x : Heard). is_odd_for (Drawing seen) x ≡ false) (sym v.0) refl
 
-  doing_odd : (few : ℕ) (statement : Bound) (doing : Doing) (heard : Heard) (after : Parts) → PhaseIs R doing (w.phases n) → DoingFits few doing → Replied (asks_doing settings setup.catalog node statement doing) heard after
+  doing_odd : (few : ℕ) (statement : Bound) (doing : Doing) (heard : Heard) (after : Parts) → PhaseIs R doing (w.phases n) → DoingFits few doing → Replied settings setup.catalog w n (asks_doing settings setup.catalog node statement doing) heard after
       → ToldFits heard → SeenIs w.commits heard → ((tid : ℕ) → tid ≤ 2 ^ 62 → OwnLog tid (w.logs tid) × LogFits (w.logs tid)) → is_odd_for doing heard ≡ false
   doing_odd few statement (Noted seen) heard after p fits v told seen_so logs = noted_odd seen heard told
-  doing_odd few statement (Drawing seen) heard after p fits v told seen_so logs = drawing_odd seen heard after v
+  doing_odd few statement (Drawing seen) heard after p fits v told seen_so logs = drawing_odd seen heard after v.0
   doing_odd few statement (Inside t) heard after p fits v told seen_so logs =
       inside_odd w.commits t heard seen_so (not_committed t.tid (node_ok (protocol.Live t []) p.0).txn.unfinished)
-  doing_odd few statement (Stores s None) heard after p fits v told seen_so logs = stores_odd s s.left heard after p v
+  doing_odd few statement (Stores s None) heard after p fits v told seen_so logs = stores_odd s s.left heard after p v.0
   doing_odd few statement (Closing t d None) heard after p fits v told seen_so logs = closing_odd w.commits t d heard seen_so (not_committed t.tid (closing_unfinished t d p))
   doing_odd few statement (Recovering c) heard after p fits v told seen_so logs = recovering_odd c heard told
   doing_odd few statement (ReadingLog c o) heard after p fits v told seen_so logs =
       let log = logs o.tid fits.tid in
-      subst (λ (x : Heard). is_odd_for (ReadingLog c o) x ≡ false) (sym v.0) (log_odd c o (w.logs o.tid) log.0 log.1)
+      subst (λ (x : Heard). is_odd_for (ReadingLog c o) x ≡ false) (sym v.0.0) (log_odd c o (w.logs o.tid) log.0 log.1)
   doing_odd few statement doing heard after p fits v told seen_so logs = refl
 
-  pub not_odd_at : (few : ℕ) (ask : Ask) (heard : Heard) (after : Parts) → asks settings setup.catalog node ≡ Some ask → DoingFits few node.doing → Serves settings (parts_of w) n ask heard after → ToldFits heard
+  pub not_odd_at : (few : ℕ) (ask : Ask) (heard : Heard) (after : Parts) → asks settings setup.catalog node ≡ Some ask → DoingFits few node.doing → Serves settings (parts_of w) n ask heard after → HasRoom ask heard → ToldFits heard
       → ((tid : ℕ) → tid ≤ 2 ^ 62 → OwnLog tid (w.logs tid) × LogFits (w.logs tid)) → is_odd_for node.doing heard ≡ false
-  not_odd_at few ask heard after asked fits serves told logs =
-      by node.todo (subst (λ (o : Option Ask). Replied o heard after) (sym asked) serves)
+  not_odd_at few ask heard after asked fits serves room told logs =
+      by node.todo (subst (λ (o : Option Ask). Replied settings setup.catalog w n o heard after) (sym asked) (serves, room))
     where
-      by : (todo : List Bound) → Replied (asks settings setup.catalog (record node { todo = todo })) heard after → is_odd_for node.doing heard ≡ false
+      by : (todo : List Bound) → Replied settings setup.catalog w n (asks settings setup.catalog (record node { todo = todo })) heard after → is_odd_for node.doing heard ≡ false
       by [] v = absurd v
       by (statement ∷ later) v = doing_odd few statement node.doing heard after b.node_is.phase fits v told (seen_is settings (parts_of w) n ask heard after serves) logs

@@ -28,7 +28,7 @@ use Rattle.tl_protocol.proofs.Inv.{NodeOk, base, shared}
 use Rattle.tl_protocol.proofs.Reached.{Reached, reached}
 use Rattle.tl_protocol.proofs.Standing.{nodes_know}
 use Rattle.tl_protocol.proofs.Steps.{recovery_at}
-use Rattle.tl_run.specs.Ask.{Ask, LoadCommits, AskManager, Heard, Log, Record, Stored, Moved}
+use Rattle.tl_run.specs.Ask.{Ask, LoadCommits, AskManager, Heard, Log, Stored, Moved}
 use Rattle.tl_run.specs.Asks.{Course, ToBegin, ToRead, ToIdle, ToCommit, ToGiveUp, ToRecover, asks, asks_commit, asks_doing, asks_duty, asks_finish, asks_inside, asks_outside, asks_read, asks_removing, asks_storing, asks_stripping, course_in, course_outside, other_manager, store_trying}
 use Rattle.tl_run.specs.Node.{Storing, Removing, Claimed, Lost, Doing, Outside, Noted, Drawing, Bringing, Inside, Reading, Trying, Stores, Removes, Closing, Ending, Recovering, ReadingLog, Stripping, Finishing, EndingLost, Stopped, Node}
 use Rattle.tl_run.specs.Reads.{Read, Point, Range, Reads, all_reads, begin_reads, tables_read, take_cell, take_page}
@@ -39,7 +39,7 @@ use Rattle.tl_run.specs.Served.{Parts, Serves, parts_of}
 use Rattle.tl_run.specs.Strange.{is_stopped}
 use Rattle.tl_run.specs.Takes.{learnt, begins, by_flag, finds, goes_on, idles, next_duty, next_lost, said, takes, takes_bringing, takes_closing, takes_commit, takes_doing, takes_drawing, takes_end_lost, takes_ending, takes_finishing, takes_give_up, takes_inside, takes_log, takes_noted, takes_outside, takes_read, takes_recovering, takes_removing, takes_storing, takes_stripping, takes_trying, with_doing}
 use Rattle.tl_run.proofs.Attempts.{by_store}
-use Rattle.tl_run.proofs.Meets.{Before, HandOk, KeyHandOk, NodeIs, PhaseIs, RecoveryIs, attempt_left, attempt_of, orphan_of}
+use Rattle.tl_run.proofs.Meets.{Before, HandOk, KeyHandOk, PhaseIs, RecoveryIs, attempt_left, attempt_of, orphan_of}
 use Rattle.tl_run.proofs.StrangeCounts.{HasRoom, IsPlain}
 use Rattle.tl_run.proofs.StrangeLefts.{CourseIs, LeftIs, course_is}
 
@@ -108,7 +108,7 @@ Knows w doing = Unit {0}
 
 module _ (settings : Settings) (catalog : Catalog) (w : World) (n : ℕ) where
   -- the places serve what is asked, if anything is, and aren't full
-  abbrev Replied : Option Ask → Heard → Parts → Type 0
+  abbrev pub Replied : Option Ask → Heard → Parts → Type 0
   Replied None heard after = ⊥
   Replied (Some ask) heard after = Serves settings (parts_of w) n ask heard after × HasRoom ask heard
 

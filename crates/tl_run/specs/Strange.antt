@@ -1,6 +1,6 @@
 -- What no place of a run replies: a reply that is of another kind than the request asks for, that refuses, or that holds a
 -- transaction number where it can't stand.
-use Rattle.std.specs.Prelude.{ℕ, ◌+◌, ◌^◌, ◌==◌, Bool, true, false, not, ◌||◌, nat_lt, List, Option, Some, None}
+use Rattle.std.specs.Prelude.{ℕ, ◌+◌, ◌^◌, ◌==◌, Bool, true, false, not, ◌||◌, nat_lt, List, Some, None}
 use Rattle.std.specs.List.{list_any, list_all}
 use Rattle.tl_base.specs.declared.place.Settings.{Settings}
 use Rattle.tl_schema.specs.declared.catalog.Catalog.{Catalog}

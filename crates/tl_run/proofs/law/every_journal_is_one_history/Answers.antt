@@ -6,6 +6,7 @@ use Rattle.tl_protocol.proofs.Standing.{one_mender, stands_for}
 use Rattle.tl_run.specs.Journal.{entries_told}
 use Rattle.tl_run.specs.Law.{IsRun}
 use Rattle.tl_run.proofs.Journals.{holds_at, spoken_at, spoken_whole, stood_at}
+use Rattle.tl_run.proofs.StrangeReplies.{nothing_strange}
 use Rattle.tl_run.proofs.law.every_journal_is_one_history.Goals as goal
 
 -- src/law.rt:5:1
@@ -42,3 +43,8 @@ returns-clause-mended c script settings past rest run =
       holds_at script settings past s,
       one_mender (setup_of script settings) s.world (state_after (setup_of script settings) (entries_told past)) (entries_told past) (reached run.bound.opening s.reach),
     )
+
+-- src/law.rt:5:1
+pub returns-clause-heeded : goal.returns-clause-heeded
+returns-clause-heeded c script settings past e rest run short request session is_session ask asked told =
+    nothing_strange script settings past e rest run short request session is_session ask asked told
