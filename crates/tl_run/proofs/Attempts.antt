@@ -34,7 +34,7 @@ use Rattle.tl_run.proofs.OwnWrites.{all_among, behind_first, first_part, has_one
 use Rattle.tl_run.proofs.Lows.{least_mark}
 
 -- of a conditional store's replies each leads to what holds of it
-by_store : (P : Heard → Parts → Type 0) (found stamp : ℕ) (heard : Heard) (done : ℕ → Parts) (p after : Parts)
+pub by_store : (P : Heard → Parts → Type 0) (found stamp : ℕ) (heard : Heard) (done : ℕ → Parts) (p after : Parts)
     → ((fresh : ℕ) → found ≡ stamp → stamp < fresh → P (Stored fresh) (done fresh)) → ((found == stamp) ≡ false → P Moved p) → P Strange p
     → served.Stores found stamp heard done p after → P heard after
 by_store P found stamp heard done p after f g h (inl (fresh, e, same, above, d)) =

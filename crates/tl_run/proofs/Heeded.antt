@@ -46,7 +46,7 @@ use Rattle.tl_run.proofs.Stood.{Heeds, Stood}
 -- ---- the kind of the reply
 
 -- a shard replies with what a store replies
-shard_reply : (settings : Settings) (ask : Ask) (p : Reply) → is_of_shard ask ≡ true → IsCall (place_of settings ask) (written ask) p
+pub shard_reply : (settings : Settings) (ask : Ask) (p : Reply) → is_of_shard ask ≡ true → IsCall (place_of settings ask) (written ask) p
     → (answer : StoreReply) × (p ≡ reply.Store answer)
 shard_reply settings LoadCommits (reply.Store answer) o h = (answer, refl)
 shard_reply settings (StoreCommits stamp set) (reply.Store answer) o h = (answer, refl)

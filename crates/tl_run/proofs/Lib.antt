@@ -55,6 +55,11 @@ pub mod StorePages
 pub mod StoreRanges
 pub mod StoreServes
 pub mod StoreStays
+pub mod StrangeCounts
+pub mod StrangeLefts
+pub mod StrangeOdd
+pub mod StrangeReplies
+pub mod StrangeStops
 pub mod Together
 pub mod Unsaid
 pub mod Vanishes

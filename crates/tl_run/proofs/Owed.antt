@@ -57,7 +57,7 @@ given_small set gone some few small d h = vanished_other set gone d some (one d 
 
 -- ---- the nodes of a set in rising order
 
-members_filter : (p : ℕ → Bool) (xs : List ℕ) (d : ℕ) → members (filter p xs) d ≡ (p d && members xs d)
+pub members_filter : (p : ℕ → Bool) (xs : List ℕ) (d : ℕ) → members (filter p xs) d ≡ (p d && members xs d)
 members_filter p [] d = none (p d)
   where
     none : (x : Bool) → false ≡ (x && false)
@@ -90,7 +90,7 @@ abbrev count_from : ℕ → ℕ → List ℕ
 count_from low zero = []
 count_from low (suc more) = low ∷ count_from (low + 1) more
 
-members_count : (low more d : ℕ) → members (count_from low more) d ≡ (nat_le low d && nat_lt d (low + more))
+pub members_count : (low more d : ℕ) → members (count_from low more) d ≡ (nat_le low d && nat_lt d (low + more))
 members_count low zero d = none low d
   where
     none : (low d : ℕ) → false ≡ (nat_le low d && nat_lt d (low + zero))

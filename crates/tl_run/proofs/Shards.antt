@@ -51,7 +51,7 @@ abbrev pub DoingAt : Settings → Doing → Type 0
 DoingAt settings (Reading t reads) = ReadsAt settings reads
 DoingAt settings doing = Unit {0}
 
-all_append : {X : Type 0} (P : X → Type 0) (xs ys : List X) → AllByRecursion P xs → AllByRecursion P ys → AllByRecursion P (xs ++ ys)
+pub all_append : {X : Type 0} (P : X → Type 0) (xs ys : List X) → AllByRecursion P xs → AllByRecursion P ys → AllByRecursion P (xs ++ ys)
 all_append P [] ys h i = i
 all_append P (x ∷ xs) ys h i = (h.0, all_append P xs ys h.1 i)
 

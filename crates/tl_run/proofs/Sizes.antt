@@ -49,7 +49,7 @@ use Rattle.tl_run.proofs.ChangeSizes.{OwnFits, change_fits}
 
 -- ---- what fits
 
-abbrev AreTids : List ℕ → Type 0
+abbrev pub AreTids : List ℕ → Type 0
 AreTids tids = AllByRecursion (λ (tid : ℕ). tid ≤ 2 ^ 62) tids
 
 pub record StoringFits (s : Storing) : Type 0 where

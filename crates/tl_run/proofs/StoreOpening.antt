@@ -94,7 +94,7 @@ no_counts n (c ∷ cs) key = let rest = no_counts (n + 1) cs key in omega arith
 abbrev lives_at : Settings → ℕ → Stored → Bool
 lives_at settings s c = shard_of_key c.0 settings.shards == s
 
-abbrev spelled : Write → Stored
+abbrev pub spelled : Write → Stored
 spelled w = (w.key, cells.spelling (record { tid = 0; row = w.row } ∷ []))
 
 -- the cell of a row that was written, or none

@@ -69,7 +69,7 @@ log_heard tid c (Some x) h = by c.value refl
     by [] e = absurd (none_some (sym nothing ∙ ap read_entry (sym e) ∙ h.read))
     by (byte ∷ bytes) e = λ i. entry_in (h.stamp i) ((ap read_entry (sym e) ∙ h.read) i)
 
-log_fits : (tid : ℕ) (c : ShardCell) (o : Option LogCell) → LogIs tid c o → LogFits o
+pub log_fits : (tid : ℕ) (c : ShardCell) (o : Option LogCell) → LogIs tid c o → LogFits o
 log_fits tid c None h = tt
 log_fits tid c (Some x) h = h.fits
 
@@ -203,7 +203,7 @@ module _ (settings : Settings) (setup : Setup) (past : List Event) (e : Event) (
       }
 
   -- the reply is the one that the log calls for
-  follows_log : AreAnswered settings setup past e → (s : ℕ) → s < settings.shards → (asked : StoreRequest) (answer : StoreReply)
+  pub follows_log : AreAnswered settings setup past e → (s : ℕ) → s < settings.shards → (asked : StoreRequest) (answer : StoreReply)
       → IsCall e s (record { request = asked; reply = answer }) → answer ≡ reply_after 0 (shard_log settings setup s past) asked
   follows_log answers s lt asked answer is =
       let c : Call = record { request = asked; reply = answer } in

@@ -14,6 +14,7 @@ use Rattle.tl_manager.specs.declared.request.ManagerReply.TheVariants as manager
 use Rattle.tl_manager.specs.declared.request.Reply.TheVariants as reply
 use Rattle.tl_manager.specs.Serves.{active_after, notice_after}
 use Rattle.tl_manager.specs.Transactions.{tids_of}
+use Rattle.tl_isolation.specs.declared.entry.Answer.{Answer}
 use Rattle.tl_isolation.specs.declared.script.Script.{Script}
 use Rattle.tl_isolation.specs.declared.script.Session.{Session}
 use Rattle.tl_isolation.specs.declared.state.Commit.{Commit}
@@ -26,13 +27,16 @@ use Rattle.tl_protocol.specs.Told.{count_in}
 use Rattle.tl_protocol.specs.World.{World}
 use Rattle.tl_versions.specs.Reading.{read_cell}
 use Rattle.tl_run.specs.declared.event.Event.{Event}
+use Rattle.tl_run.specs.Ask.{Ask}
+use Rattle.tl_run.specs.Asks.{asks}
 use Rattle.tl_run.specs.Binding.{IsBound}
-use Rattle.tl_run.specs.Bytes.{commits_key, home_of, log_key}
-use Rattle.tl_run.specs.Journal.{entries_told, has_vanished, manager_log, node_after, session_of, shard_log}
+use Rattle.tl_run.specs.Bytes.{commits_key, heard, home_of, log_key}
+use Rattle.tl_run.specs.Journal.{entries_told, has_vanished, is_post, manager_log, node_after, session_of, shard_log}
 use Rattle.tl_run.specs.Node.{owed_by}
 use Rattle.tl_run.specs.Run.{IsTrace}
 use Rattle.tl_run.specs.Schedule.{is_over}
 use Rattle.tl_run.specs.Served.{AreNodes, is_record_key}
+use Rattle.tl_run.specs.Strange.{is_strange}
 
 -- a trace of a script that the reader lets through; every journal is one (`IsJournal`)
 pub record IsRun (script : Script) (settings : Settings) (events : List Event) : Type 0 where
@@ -121,3 +125,12 @@ abbrev pub FirstCommits : Type 0
 FirstCommits = (script : Script) (settings : Settings) (past : List Event) (e : Event) (rest : List Event) → IsRun script settings (past ++ e ∷ rest)
     → (tid : ℕ) (snapshot floor : TidSet) → e.reply ≡ reply.Manager (manager.Began tid snapshot floor)
     → AreFirst snapshot (state_after (setup_of script settings) (entries_told past)).commits
+
+-- no place replies anything strange, where fewer than 2^32 rows open the tables: at a reply the node that asked doesn't stop,
+-- whatever it answers, and the reply holds no transaction number where none can stand
+abbrev pub NothingStrange : Type 0
+NothingStrange = (script : Script) (settings : Settings) (past : List Event) (e : Event) (rest : List Event) → IsRun script settings (past ++ e ∷ rest)
+    → length script.rows < 2 ^ 32 → is_post e.request ≡ false
+    → (session : Session) → session_of script e.node ≡ Some session
+    → (ask : Ask) → asks settings script.catalog (node_after settings script past session) ≡ Some ask
+    → (told : Answer) → is_strange settings script.catalog (node_after settings script past session) (heard ask e.reply) told ≡ false

@@ -11,4 +11,5 @@ pub mod Served
 pub mod Binding
 pub mod Schedule
 pub mod Run
+pub mod Strange
 pub mod Law
