@@ -29,6 +29,7 @@ pub mod Meets
 pub mod Opens
 pub mod Owed
 pub mod OwnHeld
+pub mod OwnKeyed
 pub mod OwnWrites
 pub mod Posted
 pub mod Present

@@ -120,7 +120,8 @@ module _ (number : ℕ) (table : Table) (tables : Tables) where
 no_row : (row : List Value) → ◌≡◌ {A = Option (List Value)} None (Some row) → ⊥
 no_row row e = cc
 
-home_number : (catalog : Catalog) (number : ℕ) (k : Key) (row : List Value) → (h : IsHome catalog k row) → is_in number k ≡ true → h.number ≡ number
+-- a record of this table is one of the table that it is at home in
+pub home_number : (catalog : Catalog) (number : ℕ) (k : Key) (row : List Value) → (h : IsHome catalog k row) → is_in number k ≡ true → h.number ≡ number
 home_number catalog number k row h i = sym (one number h.number k (key_bytes (key_values (table_of catalog h.number) row)) h.own_key i)
   where
     one : (number m : ℕ) (key bytes : Key) → key ≡ table_key m bytes → is_in number key ≡ true → number ≡ m

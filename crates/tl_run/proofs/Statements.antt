@@ -256,19 +256,20 @@ means_single catalog bound.Commit t told h m = absurd cc
 means_single catalog bound.Rollback t told h m = absurd cc
 means_single catalog (bound.Recover gone) t told h m = absurd cc
 
+module _ (R : Txn → List Fact → Reads → Type 0) (layout : Layout) (setup : Setup) (settings : Settings) (w : World) (state : SiState) (entries : List Entry)
+    (n : ℕ) (node : Node) (b : Before R layout setup settings w state entries n node) where
+  -- what the transaction writes is at home
+  pub live_home : (t : Txn) (facts : List Fact) → w.phases n ≡ protocol.Live t facts → AreHomeWrites setup.catalog t.own
+  live_home t facts e =
+      let all : Reached setup w state entries = reached b.opening b.reach in
+      let at : At w n (protocol.Live t facts) = record { runs = b.runs; so_far = e } in
+      let ok = node_at w all.ledger all.ghost all.inv n (protocol.Live t facts) at in
+      found (λ (x : Transaction). AreHomeWrites setup.catalog x.own) (λ (x : Transaction). x.node == n) state.held _ all.proper.held
+      (all.shows.held n (numbered w all.ledger all.ghost all.inv n b.runs) ∙ ok.txn.is_held)
+
 module _ (layout : Layout) (setup : Setup) (settings : Settings) (statement : Bound) where
   abbrev R : Txn → List Fact → Reads → Type 0
   R = ReadsOk settings setup.catalog statement
-
-  module _ (w : World) (state : SiState) (entries : List Entry) (n : ℕ) (node : Node) (b : Before R layout setup settings w state entries n node) where
-    -- what the transaction writes is at home
-    live_home : (t : Txn) (facts : List Fact) → w.phases n ≡ protocol.Live t facts → AreHomeWrites setup.catalog t.own
-    live_home t facts e =
-        let all : Reached setup w state entries = reached b.opening b.reach in
-        let at : At w n (protocol.Live t facts) = record { runs = b.runs; so_far = e } in
-        let ok = node_at w all.ledger all.ghost all.inv n (protocol.Live t facts) at in
-        found (λ (x : Transaction). AreHomeWrites setup.catalog x.own) (λ (x : Transaction). x.node == n) state.held _ all.proper.held
-        (all.shows.held n (numbered w all.ledger all.ghost all.inv n b.runs) ∙ ok.txn.is_held)
 
   -- the node's state in a world, by what it was before
   Turn : Node → World → Type 0
@@ -350,7 +351,7 @@ module _ (layout : Layout) (setup : Setup) (settings : Settings) (statement : Bo
             ends w state entries node now later doing t b own_ok told first refl refl refl after p free turn (tables_read (record reads { left = [] })) r.takes
             (say settings setup.catalog v node.number (statement_number now) t now_facts (record reads { left = [] }) told b.catalog
             (record { runs = b.runs; so_far = put_same node.number (protocol.Live t now_facts) w.phases })
-            (live_home w state entries node.number now b t facts live) statement fits r refl means)
+            (live_home R layout setup settings w state entries node.number now b t facts live) statement fits r refl means)
         on (read ∷ left) r means =
             let more : Reads = record reads { left = read ∷ left } in
             let new : Node = with_doing now (Reading t more) in
@@ -469,7 +470,7 @@ module _ (layout : Layout) (setup : Setup) (settings : Settings) (statement : Bo
           (ends w state entries base now later (Inside t) t b b.node_is.phase.1 told first refl refl refl after (sym serves.1) b.node_is.recovery turn (tables_read reads)
           parts.0
           (say settings setup.catalog v n (statement_number now) t [] reads told b.catalog (record { runs = b.runs; so_far = b.node_is.phase.0 })
-          (live_home w state entries n now b t [] b.node_is.phase.0) statement fits (read_begins settings setup.catalog statement t some parts.0) parts.1
+          (live_home R layout setup settings w state entries n now b t [] b.node_is.phase.0) statement fits (read_begins settings setup.catalog statement t some parts.0) parts.1
           (means_single setup.catalog statement t told single idle))))))
           means)
 

@@ -4,6 +4,9 @@ use Rattle.std.specs.List.{AllByRecursion}
 use Rattle.tl_base.specs.Along.{Along}
 use Rattle.tl_base.specs.declared.node.NodeSet.{NodeSet}
 use Rattle.tl_base.specs.declared.place.Settings.{Settings}
+use Rattle.tl_values.specs.declared.value.Value.{Value}
+use Rattle.tl_schema.specs.declared.catalog.Catalog.{Catalog}
+use Rattle.tl_schema.specs.Record.{record_key}
 use Rattle.tl_cells.specs.Place.{shard_of_key}
 use Rattle.tl_cells.specs.Serves.{cell_at}
 use Rattle.tl_descriptor.specs.Reading as sets
@@ -14,12 +17,15 @@ use Rattle.tl_manager.specs.declared.request.ManagerReply.TheVariants as manager
 use Rattle.tl_manager.specs.declared.request.Reply.TheVariants as reply
 use Rattle.tl_manager.specs.Serves.{active_after, notice_after}
 use Rattle.tl_manager.specs.Transactions.{tids_of}
+use Rattle.tl_write.specs.declared.write.Write.{Write}
+use Rattle.tl_write.specs.Tables.{is_in}
 use Rattle.tl_isolation.specs.declared.entry.Answer.{Answer}
 use Rattle.tl_isolation.specs.declared.script.Script.{Script}
 use Rattle.tl_isolation.specs.declared.script.Session.{Session}
 use Rattle.tl_isolation.specs.declared.state.Commit.{Commit}
 use Rattle.tl_isolation.specs.History.{IsHistory, state_after}
 use Rattle.tl_isolation.specs.Script.{IsAnswered, SpeaksAt, setup_of}
+use Rattle.tl_isolation.specs.Tables.{table_of}
 use Rattle.tl_protocol.specs.Next.{owed}
 use Rattle.tl_protocol.specs.Stands.{HasOneMender, StandsFor}
 use Rattle.tl_protocol.specs.Store.{Key, LogCell}
@@ -32,7 +38,7 @@ use Rattle.tl_run.specs.Asks.{asks}
 use Rattle.tl_run.specs.Binding.{IsBound}
 use Rattle.tl_run.specs.Bytes.{commits_key, heard, home_of, log_key}
 use Rattle.tl_run.specs.Journal.{entries_told, has_vanished, is_post, manager_log, node_after, session_of, shard_log}
-use Rattle.tl_run.specs.Node.{owed_by}
+use Rattle.tl_run.specs.Node.{Doing, Inside, Reading, owed_by}
 use Rattle.tl_run.specs.Run.{IsTrace}
 use Rattle.tl_run.specs.Schedule.{is_over}
 use Rattle.tl_run.specs.Served.{AreNodes, is_record_key}
@@ -134,3 +140,20 @@ NothingStrange = (script : Script) (settings : Settings) (past : List Event) (e 
     → (session : Session) → session_of script e.node ≡ Some session
     → (ask : Ask) → asks settings script.catalog (node_after settings script past session) ≡ Some ask
     → (told : Answer) → is_strange settings script.catalog (node_after settings script past session) (heard ask e.reply) told ≡ false
+
+-- what a transaction that takes statements has written
+abbrev pub own_in : Doing → List Write
+own_in (Inside t) = t.own
+own_in (Reading t reads) = t.own
+own_in doing = []
+
+-- a row that is written into a table stands under its own record key
+abbrev pub StandsUnderKey : Catalog → Write → Type 0
+StandsUnderKey catalog w =
+    (number : ℕ) (row : List Value) → is_in number w.key ≡ true → w.row ≡ Some row → w.key ≡ record_key number (table_of catalog number) row
+
+-- so does each row that a node's transaction, which takes statements still, has written so far
+abbrev pub OwnRowsStandUnderKeys : Type 0
+OwnRowsStandUnderKeys = (script : Script) (settings : Settings) (past rest : List Event) → IsRun script settings (past ++ rest)
+    → (n : ℕ) (session : Session) → session_of script n ≡ Some session → has_vanished past n ≡ false
+    → AllByRecursion (StandsUnderKey script.catalog) (own_in (node_after settings script past session).doing)

@@ -1,4 +1,4 @@
-ghost use Rattle.tl_run.specs.Law.{EachIsMended, FirstCommits, NothingStrange, OneHistory, SpeaksScript, SpeaksWhole, StoreStands};
+ghost use Rattle.tl_run.specs.Law.{EachIsMended, FirstCommits, NothingStrange, OneHistory, OwnRowsStandUnderKeys, SpeaksScript, SpeaksWhole, StoreStands};
 
 /// Every journal of a script: whatever the turns of the nodes' requests, whichever nodes vanish between any two and
 /// whoever recovers them.
@@ -10,4 +10,5 @@ pub fn every_journal_is_one_history()
     ensures mended { EachIsMended }
     ensures first { FirstCommits }
     ensures heeded { NothingStrange }
+    ensures own { OwnRowsStandUnderKeys }
 {}

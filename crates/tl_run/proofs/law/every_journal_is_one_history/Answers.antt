@@ -7,6 +7,7 @@ use Rattle.tl_run.specs.Journal.{entries_told}
 use Rattle.tl_run.specs.Law.{IsRun}
 use Rattle.tl_run.proofs.FirstCommits.{first_commits}
 use Rattle.tl_run.proofs.Journals.{holds_at, spoken_at, spoken_whole, stood_at}
+use Rattle.tl_run.proofs.OwnKeyed.{own_keyed}
 use Rattle.tl_run.proofs.StrangeReplies.{nothing_strange}
 use Rattle.tl_run.proofs.law.every_journal_is_one_history.Goals as goal
 
@@ -53,3 +54,7 @@ returns-clause-first c script settings past e rest run tid snapshot floor told =
 pub returns-clause-heeded : goal.returns-clause-heeded
 returns-clause-heeded c script settings past e rest run short request session is_session ask asked told =
     nothing_strange script settings past e rest run short request session is_session ask asked told
+
+-- src/law.rt:5:1
+pub returns-clause-own : goal.returns-clause-own
+returns-clause-own c script settings past rest run n session h runs = own_keyed script settings past rest run n session h runs
