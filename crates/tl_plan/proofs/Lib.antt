@@ -1,5 +1,6 @@
 pub mod Accesses
 pub mod Bounds
 pub mod Parts
+pub mod Plans
 pub mod Suffices
 pub mod Tests

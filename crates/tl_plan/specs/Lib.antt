@@ -1,3 +1,4 @@
 pub mod Access
 pub mod Law
+pub mod Plan
 pub mod Steps

@@ -10,11 +10,11 @@ use tl_schema::{Access, Column, Table};
 use tl_values::{Comparison, Kind, Value};
 
 // The key bytes of 1, of 2 and of both.
-static ONE: [u8; 9] = [2, 0x80, 0, 0, 0, 0, 0, 0, 1];
+pub static ONE: [u8; 9] = [2, 0x80, 0, 0, 0, 0, 0, 0, 1];
 
 static TWO: [u8; 9] = [2, 0x80, 0, 0, 0, 0, 0, 0, 2];
 
-static ONE_TWO: [u8; 18] = [2, 0x80, 0, 0, 0, 0, 0, 0, 1, 2, 0x80, 0, 0, 0, 0, 0, 0, 2];
+pub static ONE_TWO: [u8; 18] = [2, 0x80, 0, 0, 0, 0, 0, 0, 1, 2, 0x80, 0, 0, 0, 0, 0, 0, 2];
 
 static BEHIND_ONE: [u8; 10] = [2, 0x80, 0, 0, 0, 0, 0, 0, 1, 0xff];
 
@@ -29,7 +29,7 @@ fn column(alloc: Global, name: &str) -> Result<Column, NoMemory> {
 }
 
 // A table of two numbers, with these columns as its primary key.
-fn pair(alloc: Global, key: &[u8]) -> Result<Table, NoMemory>
+pub fn pair(alloc: Global, key: &[u8]) -> Result<Table, NoMemory>
     ensures { IfOk result (λ table. length table.columns ≡ 2) }
 {
     let mut columns = Items::new(alloc);
@@ -43,7 +43,7 @@ fn pair(alloc: Global, key: &[u8]) -> Result<Table, NoMemory>
     })
 }
 
-fn test(place: u8, by: Comparison, number: i64) -> Condition {
+pub fn test(place: u8, by: Comparison, number: i64) -> Condition {
     Condition::Test {
         left: Side::Place(place),
         by,
@@ -52,7 +52,7 @@ fn test(place: u8, by: Comparison, number: i64) -> Condition {
 }
 
 // All of these tests.
-fn all(alloc: Global, tests: &[(u8, Comparison, i64)]) -> Result<Option<Condition>, NoMemory> {
+pub fn all(alloc: Global, tests: &[(u8, Comparison, i64)]) -> Result<Option<Condition>, NoMemory> {
     let mut parts = Items::new(alloc);
     for (place, by, number) in tests {
         parts.push(test(*place, *by, *number))?;

@@ -1,12 +1,19 @@
-//! Which records a statement reads, and that these suffice for its answer.
+//! Which records a statement reads, that these suffice for its answer, and its plan.
 #![tactic(auto)]
 
 mod access;
 #[cfg(test)]
 mod cases;
+mod copy;
 mod laws;
+mod plan;
+#[cfg(test)]
+mod plan_cases;
+mod planned;
 mod range;
 mod tested;
 
 pub use access::{access_of, accesses_of};
+pub use copy::copy_bound;
 pub use laws::accesses_suffice;
+pub use plan::{Accesses, Plan, finish, make_plan};

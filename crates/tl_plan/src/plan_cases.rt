@@ -1,0 +1,119 @@
+use crate::cases::{ONE, ONE_TWO, all, pair, test};
+use crate::{finish, make_plan};
+use std::alloc::Global;
+use std::process::Abort;
+use std::test::Fail;
+use tl_algebra::{Condition, Edit, Expression, Join, Output, Query};
+use tl_base::{Bytes, Duplicate, Items, NoMemory, Text};
+use tl_isolation::Bound;
+use tl_schema::{Access, Catalog};
+use tl_values::{Comparison, Row, Rows, Value};
+
+// Tables whose key is both columns, and the first one.
+fn catalog(alloc: Global) -> Result<Catalog, NoMemory> {
+    let mut tables = Items::new(alloc);
+    tables.push(pair(alloc, &[0, 1])?)?;
+    tables.push(pair(alloc, &[0])?)?;
+    Ok(Catalog { tables })
+}
+
+fn row(alloc: Global, a: Value, b: Value) -> Result<Row, NoMemory> {
+    let mut row = Row::new(alloc);
+    row.push(a)?;
+    row.push(b)?;
+    Ok(row)
+}
+
+// The second column of both tables.
+fn select(alloc: Global, filter: Option<Condition>) -> Result<Bound, NoMemory> {
+    let mut from = Items::new(alloc);
+    from.push(Join { table: 0, on: None })?;
+    from.push(Join { table: 1, on: None })?;
+    let mut outputs = Items::new(alloc);
+    outputs.push(Output::Expression(Expression::Place(3)))?;
+    Ok(Bound::Select {
+        query: Query {
+            from,
+            filter,
+            group: Items::new(alloc),
+            outputs,
+            sort: Items::new(alloc),
+            limit: None,
+        },
+    })
+}
+
+// By the key.
+fn update(alloc: Global) -> Result<Bound, NoMemory> {
+    let both = [(0, Comparison::Equal, 1), (1, Comparison::Equal, 2)];
+    Ok(Bound::Change {
+        edit: Edit::Update {
+            table: 0,
+            sets: Items::new(alloc),
+            filter: all(alloc, &both)?,
+        },
+    })
+}
+
+// Three rows: one has a NULL in its key, and the key of another is long.
+fn insert(alloc: Global) -> Result<Bound, NoMemory> {
+    let mut rows = Rows::new(alloc);
+    rows.push(row(alloc, Value::Null, Value::Int(1))?)?;
+    rows.push(row(alloc, Value::Text(long(alloc)?), Value::Int(1))?)?;
+    rows.push(row(alloc, Value::Int(1), Value::Null)?)?;
+    Ok(Bound::Change {
+        edit: Edit::Insert { table: 1, rows },
+    })
+}
+
+// A text whose key bytes are 256.
+fn long(alloc: Global) -> Result<Text, NoMemory> {
+    let mut text = String::new(alloc);
+    for _ in 0..253 {
+        text.push('x')?;
+    }
+    Ok(Text::from_string(text))
+}
+
+fn push_key(keys: &mut Bytes, access: &Access) -> Result<(), NoMemory> {
+    match access {
+        Access::Point { key } => keys.extend_from_slice(key.as_slice()),
+        _ => Ok(()),
+    }
+}
+
+// Whether the statement reads so many records and ranges, the records of these keys, one behind the other, among them.
+fn reads(alloc: Global, bound: &Bound, count: usize, keys: &[u8]) -> Result<bool, NoMemory> {
+    let plan = make_plan(alloc, bound, &catalog(alloc)?)?;
+    let mut found = Bytes::new(alloc);
+    for access in &plan.accesses {
+        push_key(&mut found, access)?;
+    }
+    Ok(plan.accesses.len() == count && found.as_slice() == keys)
+}
+
+#[test]
+fn a_statement_reads_what_it_names(rt: HostRuntime) -> Result<(), Fail> {
+    let alloc = rt.alloc();
+    let second = select(alloc, Some(test(2, Comparison::Equal, 1)))?;
+    assert!(rt; reads(alloc, &Bound::Begin, 0, &[])?);
+    assert!(rt; reads(alloc, &second, 2, &ONE)?);
+    assert!(rt; reads(alloc, &insert(alloc)?, 1, &ONE)?);
+    assert!(rt; reads(alloc, &update(alloc)?, 1, &ONE_TWO)?);
+    Ok(())
+}
+
+#[test]
+fn only_a_select_has_rows(rt: HostRuntime) -> Result<(), Fail> {
+    let alloc = rt.alloc();
+    let catalog = catalog(alloc)?;
+    let mut first = Rows::new(alloc);
+    first.push(row(alloc, Value::Int(1), Value::Int(2))?)?;
+    let second = first.copy()?;
+    let tables = [first, second];
+    let plan = make_plan(alloc, &select(alloc, None)?, &catalog)?;
+    assert_eq!(rt; finish(alloc, &plan, &tables)?.len(), 1);
+    let plan = make_plan(alloc, &Bound::Begin, &catalog)?;
+    assert!(rt; finish(alloc, &plan, &tables)?.is_empty());
+    Ok(())
+}
