@@ -1,0 +1,3 @@
+pub mod Asked
+pub mod Hears
+pub mod Thin
