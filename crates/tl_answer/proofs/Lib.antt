@@ -1,0 +1,4 @@
+mod Changes
+pub mod Homes
+mod Laid
+mod Views
