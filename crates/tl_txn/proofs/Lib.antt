@@ -1,0 +1,13 @@
+mod Calls
+mod Cases
+mod Follows
+mod FollowsLists
+mod FollowsReads
+mod FollowsSteps
+mod FollowsThin
+mod Hearing
+mod NodeReads
+mod Own
+mod Pages
+mod Thinned
+mod Told

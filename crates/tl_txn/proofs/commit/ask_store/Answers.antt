@@ -1,0 +1,10 @@
+use Rattle.std.proofs.Common.{refl}
+use Rattle.tl_logrec.specs.declared.entry.Flag.TheVariants as flag
+use Rattle.tl_txn.specs.Attempt.{entry_of}
+use Rattle.tl_txn.proofs.commit.ask_store.Goals as goal
+
+pub returns-clause-ask : goal.returns-clause-ask
+returns-clause-ask c =
+    let s = c.args.storing.now in
+    let none = rw c.in_default.is at c.own_at.ensures.value in
+    rw (← none) (c.store_log.ensures (entry_of s.attempt flag.Decided) c.in_ok-value.ensures.value (rw (c.get.ensures.value, c.tid.ensures, c.in_ok-value.ensures.same) refl))

@@ -1,0 +1,13 @@
+pub mod After
+pub mod Attempt
+pub mod Calls
+pub mod Doing
+pub mod Follows
+pub mod Hears
+pub mod Lending
+pub mod Marks
+pub mod NodeReads
+pub mod Prepared
+pub mod Run
+pub mod Taken
+pub mod Thinned

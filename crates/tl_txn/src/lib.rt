@@ -1,0 +1,22 @@
+//! A transaction of a node, request by request: what it asks for next, and what it does with each reply.
+#![tactic(auto)]
+
+mod after;
+mod attempt;
+mod begin;
+mod commit;
+mod finish;
+mod law;
+mod phase;
+mod prepare;
+mod reading;
+mod short;
+#[cfg(test)]
+mod tests;
+mod txn;
+mod undo;
+
+pub use attempt::Attempt;
+pub use law::transactions_follow_the_node;
+pub use phase::{Decision, Open, PageRead, Phase, Read, Removing, Storing};
+pub use txn::Txn;

@@ -1,0 +1,167 @@
+//! A transaction that met a version outside its snapshot removes its own versions.
+
+ghost use Rattle.std.specs.Prelude.{◌≡◌, ◌<◌, IfOk, None, Some, false, length, slice_get, true};
+ghost use Rattle.std.specs.Option.{option_copied};
+ghost use Rattle.tl_ask.specs.Asked.{asked};
+ghost use Rattle.tl_ask.specs.Hears.{record_or_strange, store_or_strange};
+ghost use Rattle.tl_manager.specs.declared.mark.Mark.TheVariants as mark;
+ghost use Rattle.tl_run.specs.Ask.{StoreRecord};
+ghost use Rattle.tl_versions.specs.Versions.{strip};
+ghost use Rattle.tl_write.specs.declared.write.Write.{Write as TheWrite};
+ghost use Rattle.tl_txn.specs.After.{IsTaken};
+ghost use Rattle.tl_txn.specs.Hears.{hears_own};
+ghost use Rattle.tl_txn.specs.Taken as taken;
+ghost use Rattle.tl_txn.specs.Taken.{ask_removal, removal_at, takes_removing};
+
+use crate::after::After;
+use crate::finish::load_again;
+use crate::phase::{Decision, Phase, Removing, Storing};
+use std::alloc::Global;
+use tl_ask::{
+    Asked, Layout, RecordCell, StoreOutcome, hear_record, hear_store, load_record, store_log,
+    store_record,
+};
+use tl_base::{Duplicate, NoMemory, Tid};
+use tl_manager::{Mark, Reply};
+use tl_write::Write;
+
+/// It met the version of this rival in the own record in hand.
+pub fn undo(alloc: Global, layout: Layout, storing: Storing, rival: Tid) -> After
+    requires { storing.stored < length storing.attempt.own }
+    ensures { IsTaken layout (taken.removing (record { attempt = storing.attempt; log = storing.log; rival = rival; stored = storing.stored; removed = 0; loaded = false }) (mark.Clashed storing.attempt.tid rival storing.stored)) result }
+{
+    let _few = storing.attempt.len();
+    let mark = Mark::Clashed {
+        tid: storing.attempt.tid().get(),
+        rival,
+        at: storing.stored as u32,
+    };
+    let removing = Removing {
+        attempt: storing.attempt,
+        log: storing.log,
+        rival,
+        stored: storing.stored,
+        removed: 0,
+        loaded: false,
+    };
+    remove_next(alloc, layout, removing, mark)
+}
+
+/// The next own record is to be loaded that has a version of it, or the log cell stored where there is none.
+fn remove_next(alloc: Global, layout: Layout, removing: Removing, mark: Mark) -> After
+    ensures { IsTaken layout (taken.removing removing mark) result }
+{
+    let mut removing = removing;
+    let ask = ask_removal(alloc, layout, &mut removing);
+    After::going(mark, Phase::Removing(removing), ask)
+}
+
+fn ask_removal(alloc: Global, layout: Layout, removing: &mut Removing) -> Result<Asked, NoMemory>
+    ensures same { removing.new ≡ removing.old }
+    ensures ask { IfOk result (λ ask. ask ≡ asked layout (ask_removal removing.old (removal_at removing.old))) }
+{
+    if let Some(write) = write_in_hand(removing) {
+        return Ok(load_record(layout, write.key.copy()?));
+    }
+    let value = removing.attempt.take_undone()?;
+    store_log(
+        alloc,
+        layout,
+        removing.log,
+        removing.attempt.tid().get(),
+        value,
+    )
+}
+
+/// The own record from which its version is to be removed next.
+fn write_in_hand(removing: &Removing) -> Option<&Write>
+    ensures { option_copied result ≡ removal_at removing.now }
+{
+    if removing.stored <= removing.removed {
+        return None;
+    }
+    removing.attempt.own_at(removing.removed)
+}
+
+pub fn hear_removing(alloc: Global, layout: Layout, removing: Removing, reply: &Reply) -> After
+    ensures { IsTaken layout (takes_removing removing removing.loaded (removal_at removing) (hears_own removing.loaded (removal_at removing) reply.now)) result }
+{
+    if removing.loaded {
+        return take_removed(alloc, layout, removing, hear_store(reply));
+    }
+    if write_in_hand(&removing).is_none() {
+        return take_undone(alloc, layout, removing, hear_store(reply));
+    }
+    match hear_record(alloc, reply) {
+        Ok(cell) => take_loaded(layout, removing, cell),
+        Err(NoMemory) => After::out(Mark::Quiet),
+    }
+}
+
+/// The log cell says that none of its versions stands.
+fn take_undone(
+    alloc: Global,
+    layout: Layout,
+    removing: Removing,
+    outcome: Option<StoreOutcome>,
+) -> After
+    ensures { IsTaken layout (takes_removing removing false None (store_or_strange outcome)) result }
+{
+    match outcome {
+        Some(StoreOutcome::Stored(_)) => {
+            let decision = Decision::Undo(Some(removing.rival));
+            load_again(alloc, layout, removing.attempt.tid(), decision, Mark::Quiet)
+        }
+        Some(StoreOutcome::Moved) | None => After::strange(),
+    }
+}
+
+/// The own record in hand no longer has its version, or has another stamp than it had.
+fn take_removed(
+    alloc: Global,
+    layout: Layout,
+    removing: Removing,
+    outcome: Option<StoreOutcome>,
+) -> After
+    ensures { IsTaken layout (takes_removing removing true (removal_at removing) (store_or_strange outcome)) result }
+{
+    if write_in_hand(&removing).is_none() {
+        return After::strange();
+    }
+    let mut removing = removing;
+    removing.loaded = false;
+    match outcome {
+        Some(StoreOutcome::Stored(_)) => {
+            removing.removed += 1;
+            remove_next(alloc, layout, removing, Mark::Quiet)
+        }
+        Some(StoreOutcome::Moved) => remove_next(alloc, layout, removing, Mark::Quiet),
+        None => After::strange(),
+    }
+}
+
+/// Its version is to be removed from the own record in hand.
+fn take_loaded(layout: Layout, removing: Removing, cell: Option<RecordCell>) -> After
+    ensures { (own : TheWrite) → removal_at removing ≡ Some own → IsTaken layout (takes_removing removing false (removal_at removing) (record_or_strange cell)) result }
+{
+    let Some(cell) = cell else {
+        return After::strange();
+    };
+    let ask = ask_strip(layout, &removing, cell);
+    let mut removing = removing;
+    removing.loaded = true;
+    After::going(Mark::Quiet, Phase::Removing(removing), ask)
+}
+
+fn ask_strip(layout: Layout, removing: &Removing, cell: RecordCell) -> Result<Asked, NoMemory>
+    ensures { (own : TheWrite) → removal_at removing.now ≡ Some own → IfOk result (λ ask. ask ≡ asked layout (StoreRecord own.key cell.stamp (strip removing.now.attempt.tid cell.versions))) }
+{
+    let Some(own) = write_in_hand(removing) else {
+        return Err(NoMemory);
+    };
+    let RecordCell { stamp, versions } = cell;
+    let mut versions = versions;
+    versions.strip(removing.attempt.tid().get());
+    let key = own.key.copy()?;
+    store_record(layout, key, stamp, &versions)
+}
