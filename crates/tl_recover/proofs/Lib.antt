@@ -1,0 +1,10 @@
+mod Known
+mod Least
+mod NextDuty
+mod Numbers
+mod Quiet
+mod Rising
+mod Steps
+mod Strip
+mod FollowsDuties
+mod Follows

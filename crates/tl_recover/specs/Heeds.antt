@@ -1,0 +1,108 @@
+-- What a reply says to a recovery, and what the recovery is after it.
+use Rattle.std.specs.Prelude.{◌≡◌, ℕ, ◌^◌, nat_lt, Bool, true, false, if◌then◌else◌, List, ◌∷◌, Option, Some, None, Result, Ok, Err, slice_get}
+use Rattle.std.specs.List.{list_any}
+use Rattle.tl_base.specs.declared.memory.NoMemory.{NoMemory}
+use Rattle.tl_base.specs.declared.node.NodeSet.{NodeSet}
+use Rattle.tl_base.specs.declared.place.Settings.{Settings}
+use Rattle.tl_manager.specs.declared.mark.Mark.{Mark}
+use Rattle.tl_manager.specs.declared.mark.Mark.TheVariants as mark
+use Rattle.tl_manager.specs.declared.mark.TxnStep.{TxnStep}
+use Rattle.tl_manager.specs.declared.mark.TxnStep.TheVariants as step
+use Rattle.tl_manager.specs.declared.request.ManagerReply.TheVariants as manager
+use Rattle.tl_manager.specs.declared.request.Reply.{Reply}
+use Rattle.tl_run.specs.Ask.{Ask, LoadCommits, Heard, Told, Strange}
+use Rattle.tl_run.specs.Bytes.{heard}
+use Rattle.tl_run.specs.Node.{nodes_in}
+use Rattle.tl_ask.specs.Asked.{asked}
+use Rattle.tl_ask.specs.Hears.{hears_log, hears_manager, hears_record, hears_store}
+use Rattle.tl_ask.specs.declared.asked.Asked.{Asked}
+use Rattle.tl_recover.specs.declared.after.After.{After}
+use Rattle.tl_recover.specs.declared.phase.Phase.{Phase}
+use Rattle.tl_recover.specs.declared.phase.Phase.TheVariants as phase
+use Rattle.tl_recover.specs.declared.recover.Recover.{Recover}
+use Rattle.tl_recover.specs.Taken.{Taken, finding, takes}
+
+-- ---- by what is awaited
+
+-- a record that is loaded, or else a cell that is stored
+abbrev pub hears_strip : Bool → Option (List ℕ) → Reply → Heard
+hears_strip false (Some key) reply = hears_record reply
+hears_strip false None reply = hears_store reply
+hears_strip true key reply = hears_store reply
+
+abbrev pub hears_finish : Bool → Reply → Heard
+hears_finish false reply = heard LoadCommits reply
+hears_finish true reply = hears_store reply
+
+abbrev pub hears : Phase → Reply → Heard
+hears (phase.Finding node) reply = hears_manager reply
+hears (phase.ReadingLog lost) reply = hears_log reply
+hears (phase.Stripping lost log at loaded) reply = hears_strip loaded (slice_get log.entry.writes at) reply
+hears (phase.Finishing lost committed loaded) reply = hears_finish loaded reply
+hears (phase.EndingLost lost) reply = hears_manager reply
+hears phase.Over reply = Strange
+hears phase.Stopped reply = Strange
+
+-- the transactions that a manager told of
+abbrev pub orphans_heard : Heard → Option (List ℕ)
+orphans_heard (Told (manager.Orphaned tids)) = Some tids
+orphans_heard told = None
+
+abbrev pub is_ended : Heard → Bool
+is_ended (Told manager.Ended) = true
+is_ended told = false
+
+-- the numbers, where each is one of a run
+abbrev pub known : List ℕ → Option (List ℕ)
+known tids = if list_any (nat_lt (2 ^ 62)) tids then None else Some tids
+
+-- ---- in code
+
+abbrev pub request_of : Settings → Option Ask → Option Asked
+request_of settings None = None
+request_of settings (Some ask) = Some (asked settings ask)
+
+-- what is taken, with the request in bytes
+abbrev pub written : Settings → Taken → After
+written settings taken = record { phase = taken.phase; next = request_of settings taken.ask; step = taken.step }
+
+abbrev pub mark_of : TxnStep → Mark
+mark_of (step.Going told) = told
+mark_of (step.Ready told) = told
+mark_of (step.Leaf told) = told
+mark_of (step.Ended told) = told
+mark_of (step.NoMemory told) = told
+
+-- where there is a step, this is its mark
+abbrev pub HasMark : Mark → Option TxnStep → Type 0
+HasMark told None = Unit {0}
+HasMark told (Some taken) = told ≡ mark_of taken
+
+-- what is taken is given, or memory was wanting where nothing was to be marked
+abbrev pub Gives : Settings → Taken → Result After NoMemory → Type 0
+Gives settings taken (Ok after) = after ≡ written settings taken
+Gives settings taken (Err fault) = HasMark mark.Quiet taken.step
+
+-- ---- all of it
+
+-- the recovery stopped for want of memory, or it is as what was taken says
+abbrev pub IsAfter : Settings → Taken → Phase → Option Asked → Option TxnStep → Type 0
+IsAfter settings taken now next (Some (step.NoMemory told)) = (now ≡ phase.Stopped) × (next ≡ None) × HasMark told taken.step
+IsAfter settings taken now next told = (now ≡ taken.phase) × (next ≡ request_of settings taken.ask) × (told ≡ taken.step)
+
+-- what the recovery does with a reply
+abbrev pub taken_by : Recover → Reply → Taken
+taken_by recovery reply = takes recovery.layout recovery.all recovery.phase (hears recovery.phase reply)
+
+-- the recovery took the reply, and told this
+pub record IsTaken (old new : Recover) (reply : Reply) (told : Option TxnStep) : Type 0 where
+  pub alloc : new.alloc ≡ old.alloc
+  pub layout : new.layout ≡ old.layout
+  pub all : new.all ≡ old.all
+  pub after : IsAfter old.layout (taken_by old reply) new.phase new.next told
+
+-- a recovery of these nodes that has asked for the transactions of the least one
+pub record IsStarted (settings : Settings) (nodes : NodeSet) (recovery : Recover) : Type 0 where
+  pub layout : recovery.layout ≡ settings
+  pub all : recovery.all ≡ nodes
+  pub first : (least : ℕ) × (later : List ℕ) × (nodes_in nodes ≡ least ∷ later) × (recovery.phase ≡ phase.Finding least) × (recovery.next ≡ request_of settings (finding settings least).ask)
