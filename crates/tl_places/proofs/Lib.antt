@@ -1,0 +1,6 @@
+mod Begun
+mod Events
+mod Fresh
+mod Lists
+mod Written
+mod Stores

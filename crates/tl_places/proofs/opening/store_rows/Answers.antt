@@ -1,0 +1,19 @@
+use Rattle.std.proofs.Common.{[], ◌∷◌, ◌++◌, map}
+use Rattle.std.specs.FinMap as finmap
+use Rattle.tl_places.specs.Opening.{Stored, commits_cell, row_cell}
+use Rattle.tl_places.proofs.Stores.{same_cell}
+use Rattle.tl_places.proofs.Written.{cell_more}
+use Rattle.tl_places.proofs.opening.store_rows.Goals as goal
+
+pub loop-key-preserved : goal.loop-key-preserved
+loop-key-preserved c =
+    let cell : Stored = (c.in_ok-key.key, c.in_ok-value.value) in
+    record {
+      stored = c.loop-key.invariant.stored ++ cell ∷ [];
+      are_stored = c.in_ok-store.ensures c.loop-key.invariant.stored c.loop-key.invariant.are_stored;
+      all =
+          cell_more c.loop-key.invariant.stored cell c.loop-key.key-iterator c.next.new.self (c.in-Some.key.now, c.in-Some.row.now)
+          (commits_cell ∷ map row_cell (finmap.entries c.args.rows.now)) c.in-Some.ensures.steps
+          (same_cell c.in_ok-key.key c.in_ok-value.value (row_cell (c.in-Some.key.now, c.in-Some.row.now)) c.in_ok-key.ensures c.in_ok-value.ensures)
+          c.loop-key.invariant.all;
+    }

@@ -1,0 +1,14 @@
+//! The shards and the managers of a run: the store with the rows that a script opens with, and what is served and
+//! posted from there on.
+#![tactic(auto)]
+
+mod law;
+mod opening;
+mod places;
+mod room;
+mod rows;
+#[cfg(test)]
+mod tests;
+
+pub use law::places_serve_their_logs;
+pub use places::Places;
