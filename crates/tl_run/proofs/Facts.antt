@@ -23,6 +23,7 @@ use Rattle.tl_algebra.specs.declared.condition.Condition.{Condition}
 use Rattle.tl_algebra.specs.declared.edit.Edit.{Edit}
 use Rattle.tl_algebra.specs.declared.edit.Edit.TheVariants.{Insert, Update, Delete}
 use Rattle.tl_plan.specs.Access.{access_of, accesses_of, is_below}
+use Rattle.tl_plan.specs.Plan.{is_looked_up, numbers_of}
 use Rattle.tl_write.specs.Change.{number_of}
 use Rattle.tl_write.specs.Tables.{Tables, is_in}
 use Rattle.tl_isolation.specs.declared.bound.Bound.{Bound}
@@ -34,7 +35,7 @@ use Rattle.tl_protocol.specs.World.{Txn, Fact, World, Agrees}
 use Rattle.tl_protocol.specs.Move.{takes_statements}
 use Rattle.tl_protocol.specs.Next.{fact_of}
 use Rattle.tl_run.specs.Ask.{Found}
-use Rattle.tl_run.specs.Reads.{Read, Point, Range, Reads, after_read, all_reads, begin_reads, edit_reads, is_looked_up, key_behind, next_table, numbers_of, range_left, range_of, read_of, reads_of, rows_found, table_key, tables_read, take_cell, take_page}
+use Rattle.tl_run.specs.Reads.{Read, Point, Range, Reads, after_read, all_reads, begin_reads, edit_reads, key_behind, next_table, range_left, range_of, read_of, reads_of, rows_found, table_key, tables_read, take_cell, take_page}
 use Rattle.tl_run.specs.Served.{IsPage, IsWithin, are_rising, is_found, page_end}
 use Rattle.tl_run.proofs.KeyOrder.{at_least, behind_key, below_itself, between, in_table, same_itself, tie}
 

@@ -20,10 +20,11 @@ use Rattle.tl_isolation.specs.declared.bound.Bound.TheVariants as bound
 use Rattle.tl_isolation.specs.Tables.{table_of}
 use Rattle.tl_isolation.proofs.Lookups.{all_push}
 use Rattle.tl_plan.specs.Access.{access_of, accesses_of}
+use Rattle.tl_plan.specs.Plan.{is_looked_up, numbers_of}
 use Rattle.tl_protocol.specs.Store.{Key, row_shown}
 use Rattle.tl_run.specs.Ask.{Found, Heard, Record, Page}
 use Rattle.tl_run.specs.Asks.{asks_read}
-use Rattle.tl_run.specs.Reads.{Read, Point, Range, Reads, after_read, all_reads, begin_reads, edit_reads, is_looked_up, key_behind, next_table, numbers_of, range_left, read_of, reads_of, rows_found, tables_read}
+use Rattle.tl_run.specs.Reads.{Read, Point, Range, Reads, after_read, all_reads, begin_reads, edit_reads, key_behind, next_table, range_left, read_of, reads_of, rows_found, tables_read}
 use Rattle.tl_run.specs.Served.{is_record_key}
 use Rattle.tl_run.specs.Takes.{after_reply}
 use Rattle.tl_run.proofs.Fits.{AskFits, FoundFits, HeardFits, ReadFits, ReadsFit, RowFits}

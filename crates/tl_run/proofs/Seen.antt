@@ -22,6 +22,7 @@ use Rattle.tl_algebra.specs.declared.query.Join.{Join}
 use Rattle.tl_algebra.specs.declared.query.Query.{Query}
 use Rattle.tl_algebra.specs.Select.{lines_of, selected}
 use Rattle.tl_plan.specs.Access.{access_of, accesses_of, covers, is_below}
+use Rattle.tl_plan.specs.Plan.{is_looked_up, longest_key, numbers_of}
 use Rattle.tl_plan.specs.Law.{AreRead, IsRead, ReadsAll, is_covered}
 use Rattle.tl_plan.proofs.Suffices.{change_part, select_part}
 use Rattle.tl_write.specs.declared.fault.ChangeFault.{ChangeFault}
@@ -45,7 +46,7 @@ use Rattle.tl_protocol.proofs.Laid.{get_laid}
 use Rattle.tl_protocol.proofs.Homes.{laid_home}
 use Rattle.tl_protocol.proofs.Shown.{AreHomeWrites}
 use Rattle.tl_run.specs.Binding.{EditCompares, IsKeyed, StatementFits}
-use Rattle.tl_run.specs.Reads.{Read, Point, edit_reads, is_looked_up, longest_key, numbers_of, query_reads, range_of, read_of, reads_of, table_key}
+use Rattle.tl_run.specs.Reads.{Read, Point, edit_reads, query_reads, range_of, read_of, reads_of, table_key}
 use Rattle.tl_run.specs.Takes.{own_said, tables_seen, view_changed, view_read}
 use Rattle.tl_run.proofs.Keyed.{key_known, key_of_values, key_short, key_within}
 use Rattle.tl_run.proofs.KeyOrder.{compared_in, in_table, same_itself, tie}

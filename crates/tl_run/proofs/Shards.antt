@@ -25,6 +25,7 @@ use Rattle.tl_isolation.specs.declared.entry.Answer.{Answer}
 use Rattle.tl_isolation.specs.State.{is_refusal}
 use Rattle.tl_isolation.specs.Tables.{table_of}
 use Rattle.tl_plan.specs.Access.{access_of, accesses_of}
+use Rattle.tl_plan.specs.Plan.{is_looked_up, numbers_of}
 use Rattle.tl_protocol.specs.Store.{Key, Cell, CommitsCell, LogCell, row_shown}
 use Rattle.tl_protocol.specs.World.{Stage, Fresh, Opened, Answering, Txn, Loaded, Decision}
 use Rattle.tl_protocol.specs.Move.{is_empty}
@@ -33,7 +34,7 @@ use Rattle.tl_run.specs.Ask.{Ask, LoadCommits, StoreCommits, LoadLog, StoreLog, 
 use Rattle.tl_run.specs.Asks.{Course, ToBegin, ToRead, ToIdle, ToCommit, ToGiveUp, ToRecover, asks, asks_commit, asks_doing, asks_duty, asks_finish, asks_inside, asks_outside, asks_read, asks_removing, asks_storing, asks_stripping, course_in, course_outside, other_manager, reading_course, statement_course, store_trying}
 use Rattle.tl_run.specs.Bytes.{home_of}
 use Rattle.tl_run.specs.Node.{Storing, Removing, Claimed, Lost, Doing, Outside, Noted, Drawing, Bringing, Inside, Reading, Trying, Stores, Removes, Closing, Ending, Recovering, ReadingLog, Stripping, Finishing, EndingLost, Stopped, Node}
-use Rattle.tl_run.specs.Reads.{Read, Point, Range, Reads, after_read, all_reads, begin_reads, edit_reads, is_looked_up, next_table, numbers_of, range_left, read_of, reads_of, rows_found, tables_read}
+use Rattle.tl_run.specs.Reads.{Read, Point, Range, Reads, after_read, all_reads, begin_reads, edit_reads, next_table, range_left, read_of, reads_of, rows_found, tables_read}
 use Rattle.tl_run.specs.Takes.{after_reply, begins, by_flag, finds, goes_on, idles, learnt, next_duty, next_lost, said, takes, takes_bringing, takes_closing, takes_commit, takes_doing, takes_drawing, takes_end_lost, takes_ending, takes_finishing, takes_give_up, takes_idle, takes_inside, takes_log, takes_noted, takes_outside, takes_read, takes_recovering, takes_removing, takes_storing, takes_stripping, takes_trying, with_doing}
 use Rattle.tl_run.proofs.Managers.{is_of_shard}
 use Rattle.tl_run.proofs.StoreServes.{IsAtShard}

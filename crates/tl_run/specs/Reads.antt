@@ -1,25 +1,21 @@
 -- The reads of a statement: the records and ranges that its accesses name, and the rows that they bring.
-use Rattle.std.specs.Prelude.{ℕ, ◌+◌, Bool, true, false, not, ◌&&◌, nat_lt, List, [], ◌∷◌, ◌++◌, map, filter, filter_map, length, if◌then◌else◌}
-use Rattle.std.specs.List.{list_any}
+use Rattle.std.specs.Prelude.{ℕ, ◌+◌, Bool, true, false, nat_lt, List, [], ◌∷◌, ◌++◌, map, filter, filter_map, if◌then◌else◌}
 use Rattle.std.specs.Option.{option_to_list}
 use Rattle.tl_values.specs.declared.value.Value.{Value}
-use Rattle.tl_values.specs.Key.{key_bytes}
-use Rattle.tl_values.specs.Value.{is_null}
 use Rattle.tl_schema.specs.declared.access.Access.{Access}
 use Rattle.tl_schema.specs.declared.access.Access.TheVariants as access
 use Rattle.tl_schema.specs.declared.catalog.Catalog.{Catalog}
-use Rattle.tl_schema.specs.declared.catalog.Table.{Table}
-use Rattle.tl_schema.specs.Record.{key_values, record_key}
+use Rattle.tl_schema.specs.Record.{record_key}
 use Rattle.tl_descriptor.specs.Tids.{TidSet}
 use Rattle.tl_algebra.specs.declared.edit.Edit.{Edit}
 use Rattle.tl_algebra.specs.declared.edit.Edit.TheVariants.{Insert, Update, Delete}
-use Rattle.tl_algebra.specs.declared.query.Join.{Join}
 use Rattle.tl_algebra.specs.declared.query.Query.{Query}
 use Rattle.tl_versions.specs.declared.version.Version.{Version}
 use Rattle.tl_isolation.specs.declared.bound.Bound.{Bound}
 use Rattle.tl_isolation.specs.declared.bound.Bound.TheVariants as bound
 use Rattle.tl_isolation.specs.Tables.{table_of}
 use Rattle.tl_plan.specs.Access.{access_of, accesses_of}
+use Rattle.tl_plan.specs.Plan.{is_looked_up, numbers_of}
 use Rattle.tl_protocol.specs.Store.{Key, row_shown}
 use Rattle.tl_run.specs.Ask.{Found}
 
@@ -56,23 +52,11 @@ reads_of [] accesses = []
 reads_of (number ∷ numbers) [] = []
 reads_of (number ∷ numbers) (access ∷ accesses) = (read_of number access ∷ []) ∷ reads_of numbers accesses
 
--- the longest key that a record can have
-abbrev pub longest_key : ℕ
-longest_key = 255
-
--- a row to insert is looked up where its key has no NULL and isn't long
-abbrev pub is_looked_up : Table → List Value → Bool
-is_looked_up table row =
-    not (list_any is_null (key_values table row)) && not (nat_lt longest_key (length (key_bytes (key_values table row))))
-
 abbrev pub edit_reads : Catalog → Edit → List Read
 edit_reads catalog (Insert number rows) =
     map (λ row. Point (record_key number (table_of catalog number) row)) (filter (is_looked_up (table_of catalog number)) rows)
 edit_reads catalog (Update number sets where_) = read_of number (access_of (table_of catalog number) 0 where_) ∷ []
 edit_reads catalog (Delete number where_) = read_of number (access_of (table_of catalog number) 0 where_) ∷ []
-
-abbrev pub numbers_of : Query → List ℕ
-numbers_of query = map (λ (join : Join). join.table) query.from
 
 abbrev pub query_reads : Catalog → Query → List (List Read)
 query_reads catalog query =

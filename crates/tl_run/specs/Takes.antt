@@ -20,12 +20,13 @@ use Rattle.tl_isolation.specs.declared.entry.Answer.TheVariants as answer
 use Rattle.tl_isolation.specs.Meaning.{QueryAnswers, change_of, told_of}
 use Rattle.tl_isolation.specs.Step.{own_after}
 use Rattle.tl_isolation.specs.Tables.{rows_in, table_of}
+use Rattle.tl_plan.specs.Plan.{numbers_of}
 use Rattle.tl_protocol.specs.Store.{Key, Cell, CommitsCell, LogCell}
 use Rattle.tl_protocol.specs.World.{Stage, Fresh, Opened, Answering, Txn, Loaded, Decision, Commit, Undo}
 use Rattle.tl_protocol.specs.Next.{after_saying, begun_txn, end_answer}
 use Rattle.tl_run.specs.Ask.{Heard, Commits, Log, Record, Page, Stored, Moved, Numbers, Told}
 use Rattle.tl_run.specs.Bytes.{home_of}
-use Rattle.tl_run.specs.Reads.{Read, Point, Range, Reads, all_reads, begin_reads, numbers_of, tables_read, take_cell, take_page}
+use Rattle.tl_run.specs.Reads.{Read, Point, Range, Reads, all_reads, begin_reads, tables_read, take_cell, take_page}
 use Rattle.tl_run.specs.Node.{Storing, Removing, Claimed, Lost, Doing, Outside, Noted, Drawing, Bringing, Inside, Reading, Trying, Stores, Removes, Closing, Ending, Recovering, ReadingLog, Stripping, Finishing, EndingLost, Stopped, Node, nodes_in, owed_by}
 use Rattle.tl_run.specs.Asks.{Course, ToBegin, ToRead, ToIdle, ToCommit, ToGiveUp, ToRecover, course_in, course_outside, other_manager}
 
