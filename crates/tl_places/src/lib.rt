@@ -12,3 +12,4 @@ mod tests;
 
 pub use law::places_serve_their_logs;
 pub use places::Places;
+pub use rows::opening_rows;

@@ -1,6 +1,6 @@
 //! The shards and the managers.
 
-ghost use Rattle.std.specs.Prelude.{◌≡◌, ◌<◌, [], true, length, IfOk, OnErr};
+ghost use Rattle.std.specs.Prelude.{◌≡◌, ◌<◌, ◌↔◌, [], true, length, IfOk, IsTrue, OnErr};
 ghost use Rattle.tl_manager.specs.declared.request.ManagerReply.TheVariants as told;
 ghost use Rattle.tl_manager.specs.declared.request.Reply.TheVariants as answered;
 ghost use Rattle.tl_manager.specs.declared.request.Request.TheVariants as asked;
@@ -108,6 +108,13 @@ impl Places {
         let copy = Manager::copy_request(self.alloc, request)?;
         let reply = self.managers[at].apply(request)?;
         Ok((copy, reply))
+    }
+
+    /// Whether there is a manager of this number.
+    pub fn has_manager(&self, manager: u8) -> bool
+        ensures { IsTrue result ↔ (manager < length self.now.managers) }
+    {
+        usize::from(manager) < self.managers.len()
     }
 
     /// Posts a death notice, which takes no memory.
