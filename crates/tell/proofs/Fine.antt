@@ -5,7 +5,7 @@ use Rattle.std.specs.Option.{IsSomeAnd}
 use Rattle.tl_io.specs.Told.{prepend, IsAtEnd}
 use Rattle.tl_history.specs.declared.event.Journal.{Journal}
 use Rattle.tl_history.specs.declared.script.Script.{Script}
-use Rattle.tl_script.specs.Script.{script_of, Fault}
+use Rattle.tl_path_script.specs.Script.{script_of, Fault}
 use Rattle.tell.specs.declared.ended.Reason.{Reason}
 use Rattle.tell.specs.declared.ended.Reason.TheVariants as reason
 use Rattle.tell.specs.Status.{status_of}

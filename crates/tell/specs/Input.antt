@@ -8,9 +8,9 @@ use Rattle.tl_io.specs.declared.reading.ReadError.TheVariants as read
 use Rattle.tl_history.specs.declared.script.Script.{Script}
 use Rattle.tl_history.specs.FirstPath.{IsFirstPath}
 use Rattle.tl_journal.specs.Law.{AreCountable}
-use Rattle.tl_script.specs.declared.fault.ScriptError.{ScriptError}
-use Rattle.tl_script.specs.declared.fault.ScriptError.TheVariants as script
-use Rattle.tl_script.specs.Script.{script_of}
+use Rattle.tl_path_script.specs.declared.fault.ScriptError.{ScriptError}
+use Rattle.tl_path_script.specs.declared.fault.ScriptError.TheVariants as script
+use Rattle.tl_path_script.specs.Script.{script_of}
 use Rattle.tell.specs.Promise.{IsWholeInput, IsFaulty, IsTooLong}
 use Rattle.tell.specs.declared.ended.Reason.{Reason}
 use Rattle.tell.specs.declared.ended.Reason.TheVariants as reason

@@ -8,8 +8,8 @@ use Rattle.tl_history.specs.declared.event.Journal.{Journal}
 use Rattle.tl_history.specs.declared.script.Script.{Script}
 use Rattle.tl_history.specs.FirstPath.{IsFirstPath}
 use Rattle.tl_journal.specs.Law.{IsJournal, IsOneHistory, AreCountable}
-use Rattle.tl_script.specs.declared.fault.ScriptKind.{ScriptKind}
-use Rattle.tl_script.specs.Script.{script_of}
+use Rattle.tl_path_script.specs.declared.fault.ScriptKind.{ScriptKind}
+use Rattle.tl_path_script.specs.Script.{script_of}
 use Rattle.tl_render.specs.Printed.{printed}
 use Rattle.tell.specs.declared.ended.Reason.{Reason}
 use Rattle.tell.specs.declared.ended.Reason.TheVariants as reason

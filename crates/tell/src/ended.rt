@@ -5,7 +5,7 @@ use std::alloc::Global;
 use thiserror::Error;
 use tl_base::Items;
 use tl_history::Journal;
-use tl_script::ScriptKind;
+use tl_path_script::ScriptKind;
 
 /// Why a call of the program ended. The texts are the lines that the program writes on standard error.
 #[derive(Clone, Copy, Debug, PartialEq, Eq, Error)]

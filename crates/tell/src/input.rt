@@ -6,7 +6,7 @@ use crate::ended::Reason;
 use std::alloc::Global;
 use tl_history::Script;
 use tl_io::{ReadError, Source, read_all};
-use tl_script::{ScriptError, read_script};
+use tl_path_script::{ScriptError, read_script};
 
 /// The greatest number of bytes of a script.
 const MOST_BYTES: usize = 1_048_576;

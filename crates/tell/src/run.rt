@@ -30,7 +30,7 @@ fn play(alloc: Global, script: &Script) -> Result<Played, NoMemory>
     ensures text { IfOk result (λ played. played.text ≡ printed script.now played.journal) }
 {
     every_journal_is_one_history();
-    let journal = tl_world::run(alloc, script)?;
+    let journal = tl_path::run(alloc, script)?;
     let text = render(alloc, script, &journal)?;
     Ok(Played { journal, text })
 }

@@ -4,7 +4,7 @@ use std::alloc::Global;
 use std::test::Fail;
 use tl_base::{Bytes, Items, NoMemory, Text};
 use tl_io::{MemorySink, MemorySource, NoGate, SteadySink, SteadySource};
-use tl_script::ScriptKind;
+use tl_path_script::ScriptKind;
 
 const FIRST: &str =
     "CREATE TABLE t (k INT PRIMARY KEY, v INT)\n@node 1\nINSERT INTO t VALUES (1, 10)\nSELECT * FROM t WHERE k = 1\n";
