@@ -1,0 +1,11 @@
+pub mod Blanks
+pub mod Bound
+pub mod Lines
+pub mod Digits
+pub mod Heads
+pub mod Items
+pub mod Kept
+pub mod Letters
+pub mod Ranges
+pub mod Reading
+pub mod Sessions

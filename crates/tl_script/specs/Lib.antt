@@ -1,0 +1,13 @@
+pub mod Build
+pub mod Directive
+pub mod Fields
+pub mod Lines
+pub mod Name
+pub mod Node
+pub mod Number
+pub mod Opening
+pub mod Parts
+pub mod Script
+pub mod Seen
+pub mod Statement
+pub mod Words
