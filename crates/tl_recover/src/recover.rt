@@ -19,7 +19,6 @@ use tl_manager::{Mark, Reply, Request, TxnStep};
 use tl_schema::Setup;
 
 /// A node's recovery of vanished nodes, one after the other in rising order: it asks, and takes the reply.
-#[derive(Drop)]
 pub struct Recover {
     alloc: Global,
     layout: Layout,
@@ -27,6 +26,21 @@ pub struct Recover {
     all: NodeSet,
     phase: Phase,
     next: Option<Asked>,
+}
+
+// Written out, so that it is proved here, and not at each place that lets one go.
+impl Drop for Recover {
+    fn drop(self) {
+        let Recover {
+            alloc: _,
+            layout: _,
+            all: _,
+            phase,
+            next,
+        } = self;
+        drop(phase);
+        drop(next);
+    }
 }
 
 /// By the phase that the reply was awaited in.

@@ -30,13 +30,27 @@ use tl_values::Rows;
 use tl_write::Buffer;
 
 /// A transaction of a node: it says what it asks for next, and takes the reply.
-#[derive(Drop)]
 pub struct Txn {
     alloc: Global,
     layout: Layout,
     node: NodeId,
     phase: Phase,
     next: Option<Asked>,
+}
+
+// Written out, so that it is proved here, and not at each place that lets one go.
+impl Drop for Txn {
+    fn drop(self) {
+        let Txn {
+            alloc: _,
+            layout: _,
+            node: _,
+            phase,
+            next,
+        } = self;
+        drop(phase);
+        drop(next);
+    }
 }
 
 impl Txn {
