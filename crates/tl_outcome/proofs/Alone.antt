@@ -324,9 +324,9 @@ never_clashes n catalog s [] a h own tid rival at c = absurd (let l = c.1 in ome
 never_clashes n catalog s (e ∷ es) a h own tid rival at c =
     ⊎_elim
     (λ (here : Contains (e ∷ []) (entry.Clash tid rival at)).
-      no_clash n catalog s a tid rival at (subst (Allowed catalog s) (only e (entry.Clash tid rival at) here) h.0))
+    no_clash n catalog s a tid rival at (subst (Allowed catalog s) (only e (entry.Clash tid rival at) here) h.0))
     (λ (there : Contains es (entry.Clash tid rival at)).
-      never_clashes n catalog (after catalog s e) es (next n catalog s a e h.0 own.0) h.1 own.1 tid rival at there)
+    never_clashes n catalog (after catalog s e) es (next n catalog s a e h.0 own.0) h.1 own.1 tid rival at there)
     (Contains-append_cases (e ∷ []) es (entry.Clash tid rival at) c)
 
 -- what a list contains stands behind its front

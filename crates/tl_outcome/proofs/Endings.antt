@@ -69,7 +69,7 @@ found script settings past (e ∷ events) node none gone along =
     ⊎_elim
     (λ (here : posts node e ≡ true). left node e.entries (entries_told events) (posted script settings past e node none here along.0))
     (λ (there : has_vanished events node ≡ true).
-      right node e.entries (entries_told events) (found script settings (past ++ e ∷ []) events node none there along.1))
+    right node e.entries (entries_told events) (found script settings (past ++ e ∷ []) events node none there along.1))
     (or_cases (posts node e) (has_vanished events node) gone)
 
 -- no more statements than answers, of which there are as many as statements before those that are left
