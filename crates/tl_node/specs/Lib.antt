@@ -1,0 +1,15 @@
+pub mod After
+pub mod Begun
+pub mod Ends
+pub mod Fits
+pub mod Hears
+pub mod Leads
+pub mod Leaves
+pub mod New
+pub mod NextRead
+pub mod Owed
+pub mod Present
+pub mod ReadOn
+pub mod Saying
+pub mod Seen
+pub mod View
