@@ -1,0 +1,10 @@
+pub mod Behind
+pub mod Clocks
+pub mod Finished
+pub mod Grows
+pub mod Refusals
+pub mod Rounds
+pub mod Rows
+pub mod SoFar
+pub mod Stops
+pub mod Turn
