@@ -1,15 +1,16 @@
--- A told script without fault, with no fault of reading or writing, is run to its end unless memory runs out.
+-- Words of the command line and a told script without fault, with no fault of reading or writing, are run to the end unless memory
+-- runs out.
 use Rattle.std.proofs.Common.{◌≡◌, ◌⊎◌, inl, inr, ℕ, ◌<◌, ◌≤◌, List, [], ◌∷◌, ◌++◌, Option, Some, None, Result, Ok, Err, IfSome, IsOk, length, refl, sym, ap, subst, ◌∙◌, append-nil, arith}
 use Rattle.std.proofs.lemmas.Bool.{false≢true}
 use Rattle.std.specs.Option.{IsSomeAnd}
 use Rattle.tl_io.specs.Told.{prepend, IsAtEnd}
-use Rattle.tl_history.specs.declared.event.Journal.{Journal}
-use Rattle.tl_history.specs.declared.script.Script.{Script}
-use Rattle.tl_path_script.specs.Script.{script_of, Fault}
+use Rattle.tl_run.specs.declared.event.Journal.{Journal}
+use Rattle.tl_script.specs.Script.{script_of, Fault}
 use Rattle.tell.specs.declared.ended.Reason.{Reason}
 use Rattle.tell.specs.declared.ended.Reason.TheVariants as reason
 use Rattle.tell.specs.Status.{status_of}
 use Rattle.tell.specs.Promise.{Ends, Keeps, IsFine, IsFaulty, IsTooLong, IsWholeInput, most_bytes}
+use Rattle.tell.specs.Words.{words_of}
 
 abbrev Faultless : List ℕ → Type 0
 Faultless bytes = (length bytes ≤ most_bytes) × IsOk (script_of bytes)
@@ -21,8 +22,8 @@ told_is told bytes (Some rest) read end =
     let all : told ≡ bytes ++ rest = cc in
     all ∙ ap (λ (more : List ℕ). bytes ++ more) end ∙ append-nil bytes
 
-not_both : (answer : Result Script Fault) (fault : Fault) → IsOk answer → answer ≡ Err fault → ⊥
-not_both (Ok script) fault good is = cc
+not_both : {A E : Type 0} (answer : Result A E) (fault : E) → IsOk answer → answer ≡ Err fault → ⊥
+not_both (Ok x) fault good is = cc
 not_both (Err e) fault good is = false≢true good
 
 never_faulty : (before after : Option (List ℕ)) (fault : Fault) → IsSomeAnd before Faultless → IsFaulty before after fault.line fault.kind → ⊥
@@ -35,13 +36,13 @@ never_long : (before after : Option (List ℕ)) → IsSomeAnd before Faultless �
 never_long None after told long = told
 never_long (Some bytes) after told long = omega (arith, told.0, long.1)
 
-pub fine_ends : {W : Type 0} (words : List W) (before after : Ends) (why : Reason) (journal : Journal)
+pub fine_ends : (words : List (List ℕ)) (before after : Ends) (why : Reason) (journal : Journal)
     → Keeps words before after why journal → IsFine words before after → (status_of why ≡ 0) ⊎ (status_of why ≡ 5)
-fine_ends words before after (reason.Words place) journal keeps fine = absurd (keeps.0 fine.no_words)
+fine_ends words before after (reason.Words place) journal keeps fine = absurd (not_both (words_of words) place fine.words_are keeps.0)
 fine_ends words before after reason.ReadFault journal keeps fine = absurd (fine.reads keeps.1)
 fine_ends words before after reason.TooLong journal keeps fine = absurd (never_long before.left after.left fine.script keeps.1)
 fine_ends words before after (reason.Script line kind) journal keeps fine =
     absurd (never_faulty before.left after.left (record { line = line; kind = kind }) fine.script keeps.1)
-fine_ends words before after reason.WriteFault journal keeps fine = absurd (fine.writes keeps.1.2)
+fine_ends words before after reason.WriteFault journal keeps fine = absurd (fine.writes keeps.2)
 fine_ends words before after reason.NoMemory journal keeps fine = inr refl
 fine_ends words before after reason.Done journal keeps fine = inl refl

@@ -1,40 +1,65 @@
--- What stands once the text of a run was written, whole or in part.
-use Rattle.std.proofs.Common.{◌≡◌, ◌==◌, ◌∙◌, Bool, true, List, [], ◌∷◌, length, refl, sym, subst, arith}
-use Rattle.std.proofs.lemmas.Bool.{eqb-true}
+-- What stands of a call, for each way in which it ends.
+use Rattle.std.proofs.Common.{◌≡◌, ℕ, List, [], Result, Ok, Err, IsOk, refl, sym, subst}
+use Rattle.tl_base.specs.declared.place.Settings.{Settings}
 use Rattle.tl_io.specs.Faults.{Rose}
 use Rattle.tl_io.specs.Told.{append, GainsPart}
-use Rattle.tl_history.specs.declared.event.Journal.{Journal}
-use Rattle.tl_history.specs.declared.script.Script.{Script}
-use Rattle.tl_journal.specs.Law.{IsJournal, IsOneHistory}
-use Rattle.tl_render.specs.Printed.{printed}
+use Rattle.tl_isolation.specs.declared.script.Script.{Script}
+use Rattle.tl_run.specs.declared.event.Journal.{Journal}
 use Rattle.tell.specs.declared.ended.Ended.{Ended}
 use Rattle.tell.specs.declared.ended.Reason.{Reason}
 use Rattle.tell.specs.declared.ended.Reason.TheVariants as reason
+use Rattle.tell.specs.Input.{IsInput, Refuses}
+use Rattle.tell.specs.Promise.{AreWords, Ends, IsOneHistory, IsSilent, Keeps, Ran, text_of}
 use Rattle.tell.specs.Status.{status_of}
-use Rattle.tell.specs.Promise.{Ends, Keeps, Ran}
-use Rattle.tell.specs.Input.{IsInput}
+use Rattle.tell.specs.Words.{words_of}
 
-no_length : {A : Type 0} (xs : List A) → length xs ≡ 0 → xs ≡ []
-no_length [] e = refl
-no_length (x ∷ xs) e = absurd (omega arith)
+-- nothing happened in the run
+abbrev pub no_journal : Journal
+no_journal = record { events = [] }
 
--- a list that was tested to be empty
-pub tested_empty : {A : Type 0} (xs : List A) (b : Bool) → b ≡ (length xs == 0) → b ≡ true → xs ≡ []
-tested_empty xs b is found = no_length xs (eqb-true (length xs) 0 (sym is ∙ found))
+pub kept_words : (words : List (List ℕ)) (ends : Ends) (place : ℕ) → words_of words ≡ Err place → (ended : Ended)
+    → ended ≡ record { status = status_of (reason.Words place); reason = reason.Words place; journal = no_journal }
+    → Keeps words ends ends ended.reason ended.journal
+kept_words words ends place refused ended is =
+    subst (λ (e : Ended). Keeps words ends ends e.reason e.journal) (sym is) (refused, refl, record { unwritten = refl; empty = refl })
 
-module _ {W : Type 0} (words : List W) (before after : Ends) (script : Script) (journal : Journal) (none : words ≡ [])
-    (input : IsInput before.left after.left script) (run : IsJournal script journal.events) (history : IsOneHistory script journal.events) where
-  ran : Ran before after journal
-  ran = record { bytes = input.bytes; script = script; input = input.input; stands_for = input.stands_for; run = run; history = history }
+module _ (words : List (List ℕ)) (before after : Ends) (settings : Settings) (words_are : words_of words ≡ Ok settings) where
+  are_words : AreWords words
+  are_words = subst (λ (r : Result Settings ℕ). IsOk r) (sym words_are) refl
 
-  pub kept_done : after.held ≡ append before.held (printed script journal) → (ended : Ended)
-      → ended ≡ record { status = status_of reason.Done; reason = reason.Done; journal = journal }
+  silent : after.held ≡ before.held → IsSilent before after no_journal
+  silent unwritten = record { unwritten = unwritten; empty = refl }
+
+  keeps_refused : (why : Reason) → Refuses before.left after.left before.read_faults after.read_faults why → after.held ≡ before.held
+      → Keeps words before after why no_journal
+  unfolding are_words silent
+  keeps_refused reason.ReadFault refuses unwritten = (are_words, refuses, silent unwritten)
+  keeps_refused reason.TooLong refuses unwritten = (are_words, refuses, silent unwritten)
+  keeps_refused (reason.Script line kind) refuses unwritten = (are_words, refuses, silent unwritten)
+  keeps_refused reason.NoMemory refuses unwritten = (are_words, silent unwritten)
+  keeps_refused reason.Done refuses unwritten = absurd refuses
+  keeps_refused reason.WriteFault refuses unwritten = absurd refuses
+  keeps_refused (reason.Words place) refuses unwritten = absurd refuses
+
+  pub kept_refused : (why : Reason) → Refuses before.left after.left before.read_faults after.read_faults why → after.held ≡ before.held
+      → (ended : Ended) → ended ≡ record { status = status_of why; reason = why; journal = no_journal }
       → Keeps words before after ended.reason ended.journal
-  unfolding ran
-  kept_done held ended is = subst (λ (e : Ended). Keeps words before after e.reason e.journal) (sym is) (none, (ran, held))
+  kept_refused why refuses unwritten ended is =
+      subst (λ (e : Ended). Keeps words before after e.reason e.journal) (sym is) (keeps_refused why refuses unwritten)
 
-  pub kept_part : GainsPart (printed script journal) before.held after.held → Rose before.write_faults after.write_faults → (ended : Ended)
-      → ended ≡ record { status = status_of reason.WriteFault; reason = reason.WriteFault; journal = journal }
-      → Keeps words before after ended.reason ended.journal
-  unfolding ran
-  kept_part part rose ended is = subst (λ (e : Ended). Keeps words before after e.reason e.journal) (sym is) (none, (ran, part, rose))
+  module _ (script : Script) (journal : Journal) (input : IsInput before.left after.left script) (history : IsOneHistory script settings journal.events) where
+    ran : Ran words before after journal
+    ran =
+        record { bytes = input.bytes; script = script; settings = settings; words_are = words_are; input = input.input; stands_for = input.stands_for; history = history }
+
+    pub kept_done : after.held ≡ append before.held (text_of script settings journal) → (ended : Ended)
+        → ended ≡ record { status = status_of reason.Done; reason = reason.Done; journal = journal }
+        → Keeps words before after ended.reason ended.journal
+    unfolding ran
+    kept_done held ended is = subst (λ (e : Ended). Keeps words before after e.reason e.journal) (sym is) (ran, held)
+
+    pub kept_part : GainsPart (text_of script settings journal) before.held after.held → Rose before.write_faults after.write_faults → (ended : Ended)
+        → ended ≡ record { status = status_of reason.WriteFault; reason = reason.WriteFault; journal = journal }
+        → Keeps words before after ended.reason ended.journal
+    unfolding ran
+    kept_part part rose ended is = subst (λ (e : Ended). Keeps words before after e.reason e.journal) (sym is) (ran, part, rose)

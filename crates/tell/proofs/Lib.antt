@@ -1,3 +1,5 @@
-mod Fine
-mod Kept
-mod Whole
+pub mod Fine
+pub mod Fits
+pub mod Kept
+pub mod Options
+pub mod Runs

@@ -1,16 +1,16 @@
 -- Reading the input: what a script that was read stands on, and why none was.
-use Rattle.std.specs.Prelude.{◌≡◌, ℕ, ◌≤◌, List, Option, IsOk, length}
+use Rattle.std.specs.Prelude.{◌≡◌, ℕ, ◌≤◌, ◌<◌, ◌^◌, List, Option, IsOk, length}
 use Rattle.std.specs.declared.result.Result.TheVariants.{Ok, Err}
 use Rattle.tl_io.specs.Faults.{Rose}
 use Rattle.tl_io.specs.Told.{prepend, IsAtEnd}
 use Rattle.tl_io.specs.declared.reading.ReadError.{ReadError}
 use Rattle.tl_io.specs.declared.reading.ReadError.TheVariants as read
-use Rattle.tl_history.specs.declared.script.Script.{Script}
-use Rattle.tl_history.specs.FirstPath.{IsFirstPath}
-use Rattle.tl_journal.specs.Law.{AreCountable}
-use Rattle.tl_path_script.specs.declared.fault.ScriptError.{ScriptError}
-use Rattle.tl_path_script.specs.declared.fault.ScriptError.TheVariants as script
-use Rattle.tl_path_script.specs.Script.{script_of}
+use Rattle.tl_isolation.specs.declared.script.Script.{Script}
+use Rattle.tl_base.specs.declared.place.Settings.{Settings}
+use Rattle.tl_run.specs.Binding.{IsBound}
+use Rattle.tl_script.specs.declared.fault.ScriptError.{ScriptError}
+use Rattle.tl_script.specs.declared.fault.ScriptError.TheVariants as script
+use Rattle.tl_script.specs.Script.{script_of}
 use Rattle.tell.specs.Promise.{IsWholeInput, IsFaulty, IsTooLong}
 use Rattle.tell.specs.declared.ended.Reason.{Reason}
 use Rattle.tell.specs.declared.ended.Reason.TheVariants as reason
@@ -24,13 +24,13 @@ abbrev pub reason_of_script : ScriptError → Reason
 reason_of_script (script.Fault line kind) = reason.Script line kind
 reason_of_script script.NoMemory = reason.NoMemory
 
--- the input was read to its end, and stands for this script, which is built
+-- the input was read to its end, and stands for this script, which can be run
 pub record IsInput (before after : Option (List ℕ)) (script : Script) : Type 0 where
   pub bytes : List ℕ
   pub input : IsWholeInput before after bytes
   pub stands_for : script_of bytes ≡ Ok script
-  pub first : IsFirstPath script
-  pub few : AreCountable script.sessions
+  pub bound : (settings : Settings) → IsBound script settings
+  pub few : length script.rows < 2 ^ 32
 
 -- why there is no script
 abbrev pub Refuses : Option (List ℕ) → Option (List ℕ) → ℕ → ℕ → Reason → Type 0

@@ -1,3 +1,4 @@
-pub mod Status
-pub mod Promise
 pub mod Input
+pub mod Promise
+pub mod Status
+pub mod Words

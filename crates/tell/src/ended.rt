@@ -4,8 +4,8 @@ ghost use Rattle.tell.specs.Status.{status_of};
 use std::alloc::Global;
 use thiserror::Error;
 use tl_base::Items;
-use tl_history::Journal;
-use tl_path_script::ScriptKind;
+use tl_run::Journal;
+use tl_script::ScriptKind;
 
 /// Why a call of the program ended. The texts are the lines that the program writes on standard error.
 #[derive(Clone, Copy, Debug, PartialEq, Eq, Error)]
@@ -30,7 +30,7 @@ pub enum Reason {
 }
 
 /// How a call of the program ended.
-#[derive(Debug, Drop)]
+#[derive(Drop)]
 pub struct Ended {
     /// 0 done, 1 words, 2 script, 3 read fault, 4 write fault, 5 out of memory, 6 too long.
     pub status: u8,

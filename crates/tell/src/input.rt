@@ -4,9 +4,9 @@ ghost use Rattle.tell.specs.Input.{IsInput, Refuses, reason_of_read, reason_of_s
 
 use crate::ended::Reason;
 use std::alloc::Global;
-use tl_history::Script;
 use tl_io::{ReadError, Source, read_all};
-use tl_path_script::{ScriptError, read_script};
+use tl_isolation::Script;
+use tl_script::{ScriptError, read_script};
 
 /// The greatest number of bytes of a script.
 const MOST_BYTES: usize = 1_048_576;

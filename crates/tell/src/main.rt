@@ -2,8 +2,10 @@
 //! tables. What it promises stands at `run_tell`.
 #![tactic(auto)]
 
+mod command;
 mod ended;
 mod input;
+mod law;
 mod line;
 mod run;
 #[cfg(test)]

@@ -1,2 +1,6 @@
+mod FinalRows
+mod LastStores
+mod ReadCells
+mod ShownRows
+mod Taken
 mod Told
-mod StoredRows

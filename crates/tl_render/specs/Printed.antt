@@ -6,19 +6,20 @@ use Rattle.std.specs.List.{flat_map, filter_map, join_by, enumerate_from}
 use Rattle.tl_values.specs.declared.value.Value.{Value}
 use Rattle.tl_values.specs.declared.value.Value.TheVariants as value
 use Rattle.tl_schema.specs.declared.catalog.Table.{Table}
-use Rattle.tl_history.specs.declared.entry.Answer.{Answer}
-use Rattle.tl_history.specs.declared.entry.Answer.TheVariants as answer
-use Rattle.tl_history.specs.declared.entry.Ending.{Ending}
-use Rattle.tl_history.specs.declared.entry.Ending.TheVariants as ending
-use Rattle.tl_history.specs.declared.entry.Entry.{Entry}
-use Rattle.tl_history.specs.declared.entry.Entry.TheVariants as entry
-use Rattle.tl_history.specs.declared.event.Journal.{Journal}
-use Rattle.tl_history.specs.declared.script.Script.{Script}
-use Rattle.tl_history.specs.declared.script.Session.{Session}
-use Rattle.tl_history.specs.FirstPath.{first_settings}
-use Rattle.tl_history.specs.Script.{setup_of, entries_told, answers_by}
-use Rattle.tl_history.specs.Tables.{Tables, rows_in}
-use Rattle.tl_journal.specs.Log.{tables_at}
+use Rattle.tl_base.specs.declared.place.Settings.{Settings}
+use Rattle.tl_isolation.specs.declared.entry.Answer.{Answer}
+use Rattle.tl_isolation.specs.declared.entry.Answer.TheVariants as answer
+use Rattle.tl_isolation.specs.declared.entry.Ending.{Ending}
+use Rattle.tl_isolation.specs.declared.entry.Ending.TheVariants as ending
+use Rattle.tl_isolation.specs.declared.entry.Entry.{Entry}
+use Rattle.tl_isolation.specs.declared.entry.Entry.TheVariants as entry
+use Rattle.tl_isolation.specs.declared.script.Script.{Script}
+use Rattle.tl_isolation.specs.declared.script.Session.{Session}
+use Rattle.tl_isolation.specs.Script.{setup_of, answers_by}
+use Rattle.tl_isolation.specs.Tables.{rows_in}
+use Rattle.tl_write.specs.Tables.{Tables}
+use Rattle.tl_isolation.specs.History.{state_after}
+use Rattle.tl_isolation.specs.State.{tables_after}
 
 -- a byte of a text: a quote stands twice
 abbrev pub in_quotes : ℕ → List ℕ
@@ -87,8 +88,8 @@ sessions_text sessions entries = flat_map (session_text entries) sessions
 abbrev pub tables_text : List Table → Tables → List ℕ
 tables_text catalog tables = flat_map (table_text tables) (enumerate_from 0 catalog)
 
--- the text of a run: all sessions, and all tables after all commits
-abbrev pub printed : Script → Journal → List ℕ
-printed script journal =
-    let entries : List Entry = entries_told journal.events in
-    sessions_text script.sessions entries ++ tables_text script.catalog.tables (tables_at (setup_of script first_settings) entries)
+-- the text of a run that tells these entries: all sessions, and all tables after all commits
+abbrev pub printed : Script → Settings → List Entry → List ℕ
+printed script settings entries =
+    sessions_text script.sessions entries
+    ++ tables_text script.catalog.tables (tables_after (state_after (setup_of script settings) entries).commits)

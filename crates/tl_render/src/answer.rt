@@ -5,7 +5,7 @@ ghost use Rattle.tl_render.specs.Printed.{answer_text, ending_text};
 
 use crate::value::{push_number, push_rows};
 use tl_base::{Bytes, NoMemory};
-use tl_history::{Answer, Ending};
+use tl_isolation::{Answer, Ending};
 
 /// Writes a line of these words and a number.
 pub fn push_numbered(out: &mut Bytes, words: &[u8], number: u64) -> Result<(), NoMemory>

@@ -1,9 +1,9 @@
-//! The text of a run.
+//! The printed text of a run.
 
 ghost use Rattle.std.specs.Prelude.{◌≡◌, IfOk};
-ghost use Rattle.tl_history.specs.FirstPath.{first_settings};
-ghost use Rattle.tl_history.specs.Script.{setup_of};
-ghost use Rattle.tl_journal.specs.Log.{StandsFor};
+ghost use Rattle.tl_base.specs.declared.place.Settings.{Settings};
+ghost use Rattle.tl_run.specs.Journal.{entries_told};
+ghost use Rattle.tl_run.specs.Law.{IsRun};
 ghost use Rattle.tl_render.specs.Printed.{printed};
 
 use crate::session::push_sessions;
@@ -11,18 +11,19 @@ use crate::stored::final_rows;
 use crate::table::push_tables;
 use std::alloc::Global;
 use tl_base::{Bytes, NoMemory};
-use tl_history::{Journal, Script};
+use tl_isolation::Script;
+use tl_run::Journal;
 
-/// The printed text: each session with its answers, and each table after all commits. The store has to stand for
-/// the tables at the end of the run, since their rows are read off it.
+/// The printed text: each session with its answers, and each table after all commits. The rows are those that the
+/// store shows at the end of the run.
 pub fn render(alloc: Global, script: &Script, journal: &Journal) -> Result<Bytes, NoMemory>
-    requires { StandsFor (setup_of script.now first_settings) journal.now.events }
-    ensures { IfOk result (λ text. text ≡ printed script.now journal.now) }
+    ensures { IfOk result (λ text. (settings : Settings) → IsRun script.now settings journal.now.events
+        → text ≡ printed script.now settings (entries_told journal.now.events)) }
 {
     let events = journal.events.as_slice();
     let mut text = Bytes::new(alloc);
     push_sessions(&mut text, script.sessions.as_slice(), events)?;
-    let rows = final_rows(alloc, events)?;
+    let rows = final_rows(alloc, script, events)?;
     push_tables(&mut text, script.catalog.tables.as_slice(), &rows)?;
     Ok(text)
 }

@@ -1,56 +1,75 @@
 //! The tables after all commits, read off what the store holds, so that no statement is run again.
 
-ghost use Rattle.std.specs.Prelude.{◌≡◌, ℕ, [], ◌∷◌, ◌++◌, false, List, IfOk, OnOk};
-ghost use Rattle.std.specs.Option.{option_map, option_to_list};
-ghost use Rattle.std.specs.FinMap as map;
-ghost use Rattle.std.specs.Ordering.{eq_by_cmp};
-ghost use Rattle.tl_schema.specs.declared.catalog.Setup.{Setup};
-ghost use Rattle.tl_cells.specs.Serves.{Call};
-ghost use Rattle.tl_history.specs.Script.{entries_told};
-ghost use Rattle.tl_history.specs.Tables.{key_cmp};
-ghost use Rattle.tl_journal.specs.Log.{StandsFor, call_of, calls, tables_at};
-ghost use Rattle.tl_render.specs.Stored.{AreStored, Spells, stored_by};
+ghost use Rattle.std.specs.Prelude.{◌≡◌, List, ℕ, Some, map, IfOk, OnOk};
+ghost use Rattle.std.specs.Option.{option_copied, option_map};
+ghost use Rattle.std.specs.FinMap as finmap;
+ghost use Rattle.tl_base.specs.declared.place.Settings.{Settings};
+ghost use Rattle.tl_descriptor.specs.Reading.{read_set};
+ghost use Rattle.tl_versions.specs.Reading.{read_cell};
+ghost use Rattle.tl_isolation.specs.History.{state_after};
+ghost use Rattle.tl_isolation.specs.Script.{setup_of};
+ghost use Rattle.tl_isolation.specs.State.{tables_after};
+ghost use Rattle.tl_protocol.specs.Store.{last_of, row_shown};
+ghost use Rattle.tl_run.specs.Bytes.{commits_key};
+ghost use Rattle.tl_run.specs.Journal.{entries_told};
+ghost use Rattle.tl_run.specs.Law.{IsRun};
+ghost use Rattle.tl_run.specs.Served.{is_record_key};
+ghost use Rattle.tl_render.specs.Stored.{finished_in, last_stored, put_row, row_in, stored_at, stored_by, with_cells};
 
 use std::alloc::Global;
 use tl_base::{Bytes, Duplicate, NoMemory, StoreReply, StoreRequest};
-use tl_history::{Event, Reply, Request};
+use tl_descriptor::{Descriptor, DescriptorFault};
+use tl_isolation::Script;
+use tl_manager::{Reply, Request};
 use tl_map::SortedMap;
-use tl_schema::{RowFault, row_of, rows_differ};
-use tl_values::Row;
+use tl_places::opening_rows;
+use tl_run::Event;
+use tl_schema::RECORD;
+use tl_values::{Row, copy_row};
+use tl_versions::{CellFault, Versions};
 
-/// The rows of all tables after all commits, under their record keys, where the store stands for the tables.
-pub fn final_rows(alloc: Global, events: &[Event]) -> Result<SortedMap<Row>, NoMemory>
-    ensures { IfOk result (λ rows. (setup : Setup) → StandsFor setup events.now → rows ≡ tables_at setup (entries_told events.now)) }
+/// The rows of all tables after all commits, under their record keys, where these are the events of a run of the
+/// script.
+pub fn final_rows(
+    alloc: Global,
+    script: &Script,
+    events: &[Event],
+) -> Result<SortedMap<Row>, NoMemory>
+    ensures { IfOk result (λ rows. (settings : Settings) → IsRun script.now settings events.now
+        → rows ≡ tables_after (state_after (setup_of script.now settings) (entries_told events.now)).commits) }
 {
-    rows_differ();
-    let rows = stored_rows(alloc, events)?;
+    let stores = last_stores(alloc, events)?;
+    let finished = last_finished(alloc, &stores)?;
+    let mut rows = opening_rows(alloc, script)?;
+    show_rows(alloc, &mut rows, &stores, &finished)?;
     Ok(rows)
 }
 
-// The rows that the store holds after these events.
-fn stored_rows(alloc: Global, events: &[Event]) -> Result<SortedMap<Row>, NoMemory>
-    ensures { IfOk result (AreStored (calls events.now)) }
+// The bytes that were stored last under each key.
+fn last_stores<'a>(alloc: Global, events: &'a [Event]) -> Result<SortedMap<&'a Bytes>, NoMemory>
+    ensures { IfOk result (λ stores. (key : List ℕ) → option_copied (finmap.get stores key) ≡ last_stored events.now key) }
 {
-    let mut rows = SortedMap::new(alloc);
+    let mut stores = SortedMap::new(alloc);
     for event in events {
-        take_event(alloc, &mut rows, event)?;
+        take_store(&mut stores, event)?;
     }
-    Ok(rows)
+    Ok(stores)
 }
 
-// Takes what one event more leaves.
-fn take_event(alloc: Global, rows: &mut SortedMap<Row>, event: &Event) -> Result<(), NoMemory>
-    ensures { OnOk result ((log : List Call) → AreStored log rows.old → AreStored (log ++ call_of event.now ∷ []) rows.new) }
+// Takes what the event stored, if it stored anything.
+fn take_store<'a>(stores: &mut SortedMap<&'a Bytes>, event: &'a Event) -> Result<(), NoMemory>
+    ensures { OnOk result ((key : List ℕ) → option_copied (finmap.get stores.new key)
+        ≡ last_of (option_copied (finmap.get stores.old key)) (stored_at key (stored_by event.now.request event.now.reply))) }
 {
     match stored_by(event) {
-        Some((key, value)) => put_row(alloc, rows, key, value),
+        Some((key, value)) => stores.put(key, value),
         None => Ok(()),
     }
 }
 
 // The key and the bytes that an event stored.
 fn stored_by(event: &Event) -> Option<(&Bytes, &Bytes)>
-    ensures { option_to_list (option_map (λ p. (p.0.now, p.1.now)) result) ≡ stored_by (call_of event.now) }
+    ensures { option_map (λ p. (p.0.now, p.1.now)) result ≡ stored_by event.now.request event.now.reply }
 {
     match (&event.request, &event.reply) {
         (
@@ -61,24 +80,101 @@ fn stored_by(event: &Event) -> Option<(&Bytes, &Bytes)>
     }
 }
 
-// Puts the row that the bytes spell under the key; bytes that spell none leave no row there.
-fn put_row(
+// The transactions that are finished: those of the commits cell, or tid 0 alone where it was never stored.
+fn last_finished(alloc: Global, stores: &SortedMap<&Bytes>) -> Result<Descriptor, NoMemory>
+    ensures { IfOk result (λ set. finished_in (option_copied (finmap.get stores.now commits_key)) ≡ Some set) }
+{
+    let key = Bytes::from_slice(alloc, &[1])?;
+    match stores.get(&key) {
+        Some(value) => read_finished(alloc, value),
+        None => Ok(Descriptor::new(alloc, 0)),
+    }
+}
+
+// No commits cell of a run is faulty; one that were so would be want of memory.
+fn read_finished(alloc: Global, cell: &Bytes) -> Result<Descriptor, NoMemory>
+    ensures { IfOk result (λ set. read_set cell.now ≡ Some set) }
+{
+    match Descriptor::decode(alloc, cell.as_slice()) {
+        Ok(set) => Ok(set),
+        Err(DescriptorFault::BadDescriptor | DescriptorFault::NoMemory) => Err(NoMemory),
+    }
+}
+
+// Each record that was stored shows its row in the place of the one that was there.
+fn show_rows(
+    alloc: Global,
+    rows: &mut SortedMap<Row>,
+    stores: &SortedMap<&Bytes>,
+    finished: &Descriptor,
+) -> Result<(), NoMemory>
+    ensures { OnOk result (rows.new ≡ with_cells finished.now (map (λ e. (e.0, e.1.now)) (finmap.entries stores.now)) rows.old) }
+{
+    for (key, cell) in stores {
+        if is_record(key) {
+            show_row(alloc, rows, key, cell, finished)?;
+        }
+    }
+    Ok(())
+}
+
+fn is_record(key: &Bytes) -> bool
+    ensures { result ≡ is_record_key key.now }
+{
+    match key.as_slice() {
+        [first, ..] => *first == RECORD,
+        [] => false,
+    }
+}
+
+// Puts the row that the cell shows in the place of the one that was there.
+fn show_row(
     alloc: Global,
     rows: &mut SortedMap<Row>,
     key: &Bytes,
-    value: &Bytes,
+    cell: &Bytes,
+    finished: &Descriptor,
 ) -> Result<(), NoMemory>
-    ensures here { OnOk result (Spells value.now (map.get rows.new key.now)) }
-    ensures elsewhere { OnOk result ((other : List ℕ) → eq_by_cmp key_cmp other key.now ≡ false → map.get rows.new other ≡ map.get rows.old other) }
+    ensures { OnOk result (rows.new ≡ put_row key.now (row_in finished.now (read_cell cell.now)) rows.old) }
 {
-    match row_of(alloc, value.as_slice()) {
-        Ok(row) => {
-            rows.insert(key.copy()?, row)?;
+    let versions = read_versions(alloc, cell)?;
+    let row = row_shown(&versions, finished);
+    put_row(rows, key, row)?;
+    Ok(())
+}
+
+// Puts the row under the key, or takes out what stands there.
+fn put_row(rows: &mut SortedMap<Row>, key: &Bytes, row: Option<&Row>) -> Result<(), NoMemory>
+    ensures { OnOk result (rows.new ≡ put_row key.now (option_copied row.entry) rows.old) }
+{
+    match row {
+        Some(row) => {
+            let row = copy_row(row)?;
+            rows.put(key, row)?;
         }
-        Err(RowFault::BadRow) => {
+        None => {
             rows.remove(key);
         }
-        Err(RowFault::NoMemory) => return Err(NoMemory),
     }
     Ok(())
+}
+
+// No record cell of a run is faulty; one that were so would be want of memory.
+fn read_versions(alloc: Global, cell: &Bytes) -> Result<Versions, NoMemory>
+    ensures { IfOk result (λ versions. read_cell cell.now ≡ Some versions) }
+{
+    match Versions::decode(alloc, cell.as_slice()) {
+        Ok(versions) => Ok(versions),
+        Err(CellFault::BadCell | CellFault::NoMemory) => Err(NoMemory),
+    }
+}
+
+// The row that these transactions left.
+fn row_shown<'a>(versions: &'a Versions, finished: &Descriptor) -> Option<&'a Row>
+    ensures { option_copied result ≡ row_shown finished.now versions.now }
+{
+    match versions.visible(finished) {
+        Some(version) => version.row.as_ref(),
+        None => None,
+    }
 }

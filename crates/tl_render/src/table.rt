@@ -3,7 +3,7 @@
 ghost use Rattle.std.specs.Prelude.{◌≡◌, ◌++◌, [], OnOk, nat_eq};
 ghost use Rattle.std.specs.List.{starts_with};
 ghost use Rattle.tl_schema.specs.Record.{store_key};
-ghost use Rattle.tl_history.specs.Tables.{rows_in};
+ghost use Rattle.tl_isolation.specs.Tables.{rows_in};
 ghost use Rattle.tl_render.specs.Printed.{rows_text, table_text, tables_text};
 
 use crate::value::push_row;

@@ -1,6 +1,6 @@
 use Rattle.std.proofs.Common.{◌≡◌, ◌++◌, drop}
 use Rattle.std.specs.List.{flat_map}
-use Rattle.tl_history.specs.Script.{answers_by}
+use Rattle.tl_isolation.specs.Script.{answers_by}
 use Rattle.tl_render.specs.Printed.{answer_text}
 use Rattle.tl_render.proofs.session.push_answers_in.Given as goal
 

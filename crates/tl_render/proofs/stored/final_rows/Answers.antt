@@ -1,5 +1,17 @@
-use Rattle.tl_render.proofs.StoredRows.{stored-tables}
+use Rattle.std.proofs.Common.{ap, sym, ◌∙◌}
+use Rattle.std.specs.FinMap as finmap
+use Rattle.std.specs.Option.{option_map}
+use Rattle.tl_run.specs.Bytes.{commits_key}
+use Rattle.tl_render.specs.Stored.{finished_in}
+use Rattle.tl_render.proofs.FinalRows.{final_tables, sorted_entries}
+use Rattle.tl_render.proofs.Taken.{cells_of, find_same, pointed, sorted_same}
 use Rattle.tl_render.proofs.stored.final_rows.Goals as goal
 
 pub returns : goal.returns
-returns c = λ setup stands. stored-tables c.rows_differ.ensures setup c.args.events.now c.in_ok-rows.rows stands c.in_ok-rows.ensures
+returns c = λ settings.
+    let stores = c.in_ok-stores.stores in
+    final_tables c.args.script.now settings c.args.events.now (cells_of pointed (finmap.entries stores)) c.in_ok-finished.finished c.in_ok-rows.rows c.show_rows.new.rows
+    (sorted_same pointed (finmap.entries stores) ∙ sorted_entries stores)
+    (λ key. find_same pointed key (finmap.entries stores) ∙ ap (option_map pointed) (sym (finmap.get-entries stores key)) ∙ c.in_ok-stores.ensures key)
+    (ap finished_in (sym (c.in_ok-stores.ensures commits_key)) ∙ c.in_ok-finished.ensures)
+    c.in_ok-rows.ensures c.in_ok-show_rows.ensures

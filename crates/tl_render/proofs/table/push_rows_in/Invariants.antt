@@ -1,7 +1,7 @@
 use Rattle.std.proofs.Common.{◌≡◌, ◌++◌, [], map, filter, nat_eq}
 use Rattle.std.specs.List.{starts_with}
 use Rattle.tl_schema.specs.Record.{store_key}
-use Rattle.tl_history.specs.Tables.{rows_in}
+use Rattle.tl_isolation.specs.Tables.{rows_in}
 use Rattle.tl_render.specs.Printed.{rows_text}
 use Rattle.tl_render.proofs.table.push_rows_in.Given as goal
 

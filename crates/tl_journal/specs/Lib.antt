@@ -1,4 +1,0 @@
-pub mod Told
-pub mod Log
-pub mod Run
-pub mod Law

@@ -1,3 +1,0 @@
-pub mod RowsIn
-pub mod Runs
-pub mod Served

@@ -1,4 +1,0 @@
-pub mod Tables
-pub mod Insert
-pub mod World
-pub mod Script
