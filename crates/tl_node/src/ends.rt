@@ -22,7 +22,7 @@ use crate::running::running;
 use crate::work::{Course, Last, Next, Stage, Work};
 use tl_answer::copy_answer;
 use tl_ask::Asked;
-use tl_base::{NoMemory, Tid};
+use tl_base::{Boxed, NoMemory, Tid};
 use tl_descriptor::Descriptor;
 use tl_isolation::Answer;
 use tl_manager::{Mark, Reply, TxnStep};
@@ -88,7 +88,7 @@ pub fn take_end(
     core: &mut Core,
     txn: Txn,
     stage: Stage,
-    last: Option<Last>,
+    last: Option<Boxed<Last>>,
     reply: &Reply,
 ) -> (Mark, Result<Next, NoMemory>)
     requires { IsFit core.old (work.Runs (record { txn = txn; stage = stage; course = way.Ends last })) }
@@ -106,7 +106,7 @@ fn take_last(
     core: &mut Core,
     txn: Txn,
     stage: Stage,
-    last: Last,
+    last: Boxed<Last>,
     reply: &Reply,
 ) -> (Mark, Result<Next, NoMemory>)
     requires { IsFit core.old (work.Runs (record { txn = txn; stage = stage; course = way.Ends (Some last) })) }
@@ -123,7 +123,7 @@ fn take_last(
 }
 
 /// The answer stands.
-fn end(core: &mut Core, last: Last) -> Next
+fn end(core: &mut Core, last: Boxed<Last>) -> Next
     requires { vec_len core.old.answers < vec_capacity core.old.answers }
     ensures { EndsWith core.old last core.new result }
 {
@@ -131,7 +131,7 @@ fn end(core: &mut Core, last: Last) -> Next
         kept,
         said,
         following,
-    } = last;
+    } = last.into_inner();
     core.answers.push_reserved(kept);
     Next::Says(Work::Outside(following), said)
 }
@@ -229,7 +229,7 @@ fn give_up_answer(stage: &Stage) -> Result<Answer, NoMemory>
 }
 
 /// Room for the answer, and the first request of the statement after it.
-fn last(core: &mut Core, answer: Answer) -> Result<Last, NoMemory>
+fn last(core: &mut Core, answer: Answer) -> Result<Boxed<Last>, NoMemory>
     ensures { Reserves core.old answer core.new result }
 {
     match core.answers.reserve(1) {
@@ -238,16 +238,18 @@ fn last(core: &mut Core, answer: Answer) -> Result<Last, NoMemory>
     }
 }
 
-fn last_with_room(core: &Core, answer: Answer) -> Result<Last, NoMemory>
+fn last_with_room(core: &Core, answer: Answer) -> Result<Boxed<Last>, NoMemory>
     requires { vec_len core.now.answers < vec_capacity core.now.answers }
     ensures { IfOk result (λ last. FitsLast core.now answer last) }
 {
     let following = outside_at(core, core.answers.len() + 1)?;
     let copy = copy_answer(&answer)?;
     let said = core.said(copy, true)?;
-    Ok(Last {
+    let last = Last {
         kept: answer,
         said,
         following,
-    })
+    };
+    let boxed = Boxed::new(core.alloc, last)?;
+    Ok(boxed)
 }

@@ -1,7 +1,7 @@
 //! What a node is at.
 
 use tl_ask::Asked;
-use tl_base::{Items, NodeId, NodeSet};
+use tl_base::{Boxed, Items, NodeId, NodeSet};
 use tl_isolation::{Answer, Said};
 use tl_plan::Accesses;
 use tl_recover::Recover;
@@ -57,8 +57,9 @@ pub enum Course {
     Idles(Asked),
     /// Another manager's low-water mark.
     AsksOther { manager: u8, asked: Asked },
-    /// The end is asked for; what it is answered, once the transaction is finished.
-    Ends(Option<Last>),
+    /// The end is asked for; what it is answered, once the transaction is finished. Behind a pointer, since it holds a
+    /// transaction of its own.
+    Ends(Option<Boxed<Last>>),
 }
 
 /// A node's transaction.
