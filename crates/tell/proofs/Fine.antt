@@ -1,6 +1,6 @@
 -- Words of the command line and a told script without fault, with no fault of reading or writing, are run to the end unless memory
 -- runs out.
-use Rattle.std.proofs.Common.{◌≡◌, ◌⊎◌, inl, inr, ℕ, ◌<◌, ◌≤◌, List, [], ◌∷◌, ◌++◌, Option, Some, None, Result, Ok, Err, IfSome, IsOk, length, refl, sym, ap, subst, ◌∙◌, append-nil, arith}
+use Rattle.std.proofs.Common.{◌≡◌, ◌⊎◌, inl, inr, ℕ, ◌≤◌, List, ◌++◌, Option, Some, None, Result, Ok, Err, IsOk, length, refl, ap, ◌∙◌, append-nil, arith}
 use Rattle.std.proofs.lemmas.Bool.{false≢true}
 use Rattle.std.specs.Option.{IsSomeAnd}
 use Rattle.tl_io.specs.Told.{prepend, IsAtEnd}
@@ -9,7 +9,7 @@ use Rattle.tl_script.specs.Script.{script_of, Fault}
 use Rattle.tell.specs.declared.ended.Reason.{Reason}
 use Rattle.tell.specs.declared.ended.Reason.TheVariants as reason
 use Rattle.tell.specs.Status.{status_of}
-use Rattle.tell.specs.Promise.{Ends, Keeps, IsFine, IsFaulty, IsTooLong, IsWholeInput, most_bytes}
+use Rattle.tell.specs.Promise.{Ends, Keeps, IsFine, IsFaulty, IsTooLong, most_bytes}
 use Rattle.tell.specs.Words.{words_of}
 
 abbrev Faultless : List ℕ → Type 0

@@ -1,16 +1,12 @@
 -- The words of the command line, one option after the other.
-use Rattle.std.proofs.Common.{◌≡◌, ℕ, zero, suc, ◌+◌, ◌*◌, ◌<◌, ◌≤◌, List, [], ◌∷◌, Option, Some, None, Result, Ok, Err, length, drop, get_or, refl, sym, ap, subst, ◌∙◌, arith}
-use Rattle.std.specs.Prelude.{slice_get, IfSome}
-use Rattle.std.specs.Option.{is_none, option_and_then}
+use Rattle.std.proofs.Common.{◌≡◌, ℕ, zero, suc, ◌+◌, ◌<◌, ◌≤◌, List, [], ◌∷◌, Some, None, Ok, Err, length, drop, get_or, refl, sym, ap, ◌∙◌, arith}
+use Rattle.std.specs.Prelude.{slice_get}
+use Rattle.std.specs.Option.{option_and_then}
 use Rattle.std.proofs.lemmas.List.{drop_more, drop_all, drop-drop}
-use Rattle.std.proofs.lemmas.Bool.Decides.{nat_tests}
-use Rattle.tl_base.specs.declared.place.Settings.{Settings}
 use Rattle.tell.specs.declared.command.Given.{Given}
 use Rattle.tell.specs.declared.command.Name.{Name}
-use Rattle.tell.specs.declared.command.Name.TheVariants.{Shards, Managers, Budget}
-use Rattle.tell.specs.declared.command.Word.{Word}
 use Rattle.tell.specs.declared.command.Word.TheVariants.{Gives, Awaits}
-use Rattle.tell.specs.Words.{after_value, after_word, count, given_by, one_if, read_from, value_of, with_value, word_in, AreWithin, IsWithin, greatest, settings_of}
+use Rattle.tell.specs.Words.{read_from, value_of, with_value, word_in, settings_of}
 
 -- ---- reading on
 

@@ -1,5 +1,5 @@
 -- A run, as the laws of the crates below speak of it.
-use Rattle.std.proofs.Common.{◌≡◌, ℕ, ◌≤◌, List, ◌++◌, subst}
+use Rattle.std.proofs.Common.{◌≡◌, ◌≤◌, List, ◌++◌, subst}
 use Rattle.tl_base.specs.declared.place.Settings.{Settings}
 use Rattle.tl_isolation.specs.declared.script.Script.{Script}
 use Rattle.tl_run.specs.declared.event.Event.{Event}

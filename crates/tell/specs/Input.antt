@@ -1,8 +1,7 @@
 -- Reading the input: what a script that was read stands on, and why none was.
-use Rattle.std.specs.Prelude.{◌≡◌, ℕ, ◌≤◌, ◌<◌, ◌^◌, List, Option, IsOk, length}
-use Rattle.std.specs.declared.result.Result.TheVariants.{Ok, Err}
+use Rattle.std.specs.Prelude.{◌≡◌, ℕ, ◌<◌, ◌^◌, List, Option, length}
+use Rattle.std.specs.declared.result.Result.TheVariants.{Ok}
 use Rattle.tl_io.specs.Faults.{Rose}
-use Rattle.tl_io.specs.Told.{prepend, IsAtEnd}
 use Rattle.tl_io.specs.declared.reading.ReadError.{ReadError}
 use Rattle.tl_io.specs.declared.reading.ReadError.TheVariants as read
 use Rattle.tl_isolation.specs.declared.script.Script.{Script}

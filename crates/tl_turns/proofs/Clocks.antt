@@ -15,10 +15,6 @@ latest_more [] e = refl
 latest_more (x ∷ []) e = refl
 latest_more (x ∷ y ∷ past) e = latest_more (y ∷ past) e
 
--- a request ticks the clock
-pub not_behind : (past : List Event) (e : Event) → is_post e.request ≡ false → is_behind past e ≡ false
-not_behind past e h = rw h refl
-
 -- a notice directly behind an event of its node doesn't
 pub behind_own : (past : List Event) (e f : Event) → e.node ≡ f.node → is_post f.request ≡ true → is_behind (past ++ e ∷ []) f ≡ true
 behind_own past e f own h = rw (h, latest_more past e) (eq-eqb e.node f.node own)

@@ -1,10 +1,8 @@
-use Rattle.std.proofs.Common.{◌≡◌, ◌+◌, ◌*◌, ◌<◌, ◌≤◌, Some, None, length, get_or, sym, ap, ◌∙◌, arith}
-use Rattle.std.specs.Prelude.{slice_get}
-use Rattle.std.specs.Option.{option_and_then}
+use Rattle.std.proofs.Common.{◌≡◌, Some, None, sym, arith}
 use Rattle.std.proofs.lemmas.Result.{err_from_is_err_and}
 use Rattle.tell.specs.declared.command.Word.TheVariants.{Gives, Awaits}
-use Rattle.tell.specs.Words.{AreWithin, count, value_of, with_value, word_in}
-use Rattle.tell.proofs.Fits.{Suits, count_fewer, count_more, given_within, suits, within_with}
+use Rattle.tell.specs.Words.{word_in}
+use Rattle.tell.proofs.Fits.{count_fewer, count_more, given_within, suits, within_with}
 use Rattle.tell.proofs.Options.{on_awaits, on_gives, on_no_value, on_none}
 use Rattle.tell.proofs.command.read_option.Goals as goal
 

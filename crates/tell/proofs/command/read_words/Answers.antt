@@ -1,4 +1,4 @@
-use Rattle.std.proofs.Common.{sym, ◌∙◌, Ok, ap, arith}
+use Rattle.std.proofs.Common.{sym, ◌∙◌}
 use Rattle.tell.proofs.Options.{on_end}
 use Rattle.tell.proofs.command.read_words.Goals as goal
 

@@ -1,4 +1,4 @@
-use Rattle.std.proofs.Common.{◌≡◌, [], ◌∙◌, ap, refl, subst}
+use Rattle.std.proofs.Common.{◌≡◌, ◌∙◌, ap, refl, subst}
 use Rattle.tl_io.specs.Told.{append, GainsPart}
 use Rattle.tell.specs.declared.ended.Reason.TheVariants as reason
 use Rattle.tell.specs.Promise.{text_of}
