@@ -1,8 +1,8 @@
 #!/usr/bin/env python3
-"""Writes a script of N INSERTs in a shuffled order of keys and N SELECTs by key.
+"""Writes a script of 4 nodes that run N INSERTs in a shuffled order of keys, and then N SELECTs by key, a quarter each.
 
     python3 bench/statements.py 12000 > /tmp/statements.tell
-    time bin/tell < /tmp/statements.tell > /dev/null
+    time bin/tell --budget 100000 < /tmp/statements.tell > /dev/null
     python3 bench/statements.py 12000 --sqlite      # the same statements, one by one, in SQLite in memory
 """
 import random
@@ -10,17 +10,21 @@ import sqlite3
 import sys
 import time
 
+NODES = 4
+
 
 def script(count):
     random.seed(5)
     keys = list(range(count))
     random.shuffle(keys)
     yield "CREATE TABLE t (k INT PRIMARY KEY, v INT)"
-    yield "@node 1"
-    for key in keys:
-        yield f"INSERT INTO t VALUES ({key}, {key * 7})"
-    for _ in keys:
-        yield f"SELECT * FROM t WHERE k = {random.randrange(count)}"
+    for node in range(NODES):
+        own = keys[node::NODES]
+        yield f"@node {node + 1}"
+        for key in own:
+            yield f"INSERT INTO t VALUES ({key}, {key * 7})"
+        for _ in own:
+            yield f"SELECT * FROM t WHERE k = {random.randrange(count)}"
 
 
 def in_sqlite(lines):

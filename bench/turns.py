@@ -81,7 +81,7 @@ fn change(alloc: Global, id: i64, by: Operator, amount: i64) -> Result<Bound, No
 }
 
 fn draw(seed: &mut u64) -> i64 {
-    *seed = (*seed * 1_103_515_245 + 12_345) % 2_147_483_648;
+    *seed = seed.wrapping_mul(1_103_515_245).wrapping_add(12_345) % 2_147_483_648;
     (*seed / 65_536) as i64
 }
 
