@@ -199,7 +199,7 @@ impl World {
         self.spare.clear();
         self.last.clear();
         self.events.reserve(2)?;
-        self.spare.reserve(2)?;
+        self.spare.reserve_exact(2)?;
         self.last.reserve(1)?;
         self.commits.reserve(1)?;
         Ok(())
