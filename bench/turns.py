@@ -1,5 +1,6 @@
 #!/usr/bin/env python3
-"""Drives a world of 4 nodes through 100,000 turns of transfers, and prints nanoseconds a turn and bytes kept a turn.
+"""Drives a world of 4 nodes through 100,000 turns of transfers, and prints nanoseconds a turn, the least and the middle of
+nine runs, and bytes kept a turn.
 
     python3 bench/turns.py
 
@@ -14,6 +15,7 @@ import sys
 import tempfile
 
 HERE = pathlib.Path(__file__).resolve().parent.parent
+RUNS = 9
 
 PROGRAM = r"""//! Transfers between 200 accounts, by 4 nodes in one world.
 #![tactic(auto)]
@@ -189,6 +191,9 @@ with tempfile.TemporaryDirectory() as home:
     (crate / "src").mkdir(parents=True)
     (crate / "src" / "main.rt").write_text(PROGRAM)
     program = built(crate)
-    events, took, whole = run(program, [])
+    runs = [run(program, []) for _ in range(RUNS)]
+    events, _, whole = runs[0]
     _, _, none = run(program, ["none"])
-    print(f"{events} turns, {took // events} ns a turn, {(whole - none) * 1024 // events} bytes kept a turn")
+    took = sorted(took // events for _, took, _ in runs)
+    kept = (whole - none) * 1024 // events
+    print(f"{events} turns, {took[0]} ns a turn at least, {took[RUNS // 2]} in the middle, {kept} bytes kept a turn")
