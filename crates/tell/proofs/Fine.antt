@@ -4,7 +4,7 @@ use Rattle.std.proofs.Common.{◌≡◌, ◌⊎◌, inl, inr, ℕ, ◌≤◌, Li
 use Rattle.std.proofs.lemmas.Bool.{false≢true}
 use Rattle.std.specs.Option.{IsSomeAnd}
 use Rattle.tl_io.specs.Told.{prepend, IsAtEnd}
-use Rattle.tl_run.specs.declared.event.Journal.{Journal}
+use Rattle.tl_journal.specs.declared.event.Journal.{Journal}
 use Rattle.tl_script.specs.Script.{script_of, Fault}
 use Rattle.tell.specs.declared.ended.Reason.{Reason}
 use Rattle.tell.specs.declared.ended.Reason.TheVariants as reason

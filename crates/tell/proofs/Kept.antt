@@ -4,7 +4,7 @@ use Rattle.tl_base.specs.declared.place.Settings.{Settings}
 use Rattle.tl_io.specs.Faults.{Rose}
 use Rattle.tl_io.specs.Told.{append, GainsPart}
 use Rattle.tl_isolation.specs.declared.script.Script.{Script}
-use Rattle.tl_run.specs.declared.event.Journal.{Journal}
+use Rattle.tl_journal.specs.declared.event.Journal.{Journal}
 use Rattle.tell.specs.declared.ended.Ended.{Ended}
 use Rattle.tell.specs.declared.ended.Reason.{Reason}
 use Rattle.tell.specs.declared.ended.Reason.TheVariants as reason

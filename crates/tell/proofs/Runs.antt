@@ -2,11 +2,11 @@
 use Rattle.std.proofs.Common.{◌≡◌, ◌≤◌, List, ◌++◌, subst}
 use Rattle.tl_base.specs.declared.place.Settings.{Settings}
 use Rattle.tl_isolation.specs.declared.script.Script.{Script}
-use Rattle.tl_run.specs.declared.event.Event.{Event}
-use Rattle.tl_run.specs.Binding.{IsBound}
-use Rattle.tl_run.specs.Law.{IsRun, OneHistory, SpeaksScript, SpeaksWhole, StoreStands}
-use Rattle.tl_outcome.specs.Promises.{AnswersAll, NeverConflicts}
-use Rattle.tl_outcome.specs.Run.{HasRun}
+use Rattle.tl_journal.specs.declared.event.Event.{Event}
+use Rattle.tl_journal.specs.Binding.{IsBound}
+use Rattle.tl_journal.specs.Law.{IsRun, OneHistory, SpeaksScript, SpeaksWhole, StoreStands}
+use Rattle.tl_journal.specs.Promises.{AnswersAll, NeverConflicts}
+use Rattle.tl_journal.specs.Outcome.{HasRun}
 use Rattle.tell.specs.Promise.{RunsAreOneHistory, Stood}
 
 pub is_run : (script : Script) (settings : Settings) (events : List Event) → IsBound script settings → 1 ≤ settings.shards → 1 ≤ settings.managers

@@ -6,7 +6,7 @@ use Rattle.tl_io.specs.declared.reading.ReadError.{ReadError}
 use Rattle.tl_io.specs.declared.reading.ReadError.TheVariants as read
 use Rattle.tl_isolation.specs.declared.script.Script.{Script}
 use Rattle.tl_base.specs.declared.place.Settings.{Settings}
-use Rattle.tl_run.specs.Binding.{IsBound}
+use Rattle.tl_journal.specs.Binding.{IsBound}
 use Rattle.tl_script.specs.declared.fault.ScriptError.{ScriptError}
 use Rattle.tl_script.specs.declared.fault.ScriptError.TheVariants as script
 use Rattle.tl_script.specs.Script.{script_of}

@@ -16,17 +16,17 @@ use Rattle.tl_isolation.specs.History.{IsHistory, state_after}
 use Rattle.tl_isolation.specs.Script.{IsAnswered, SpeaksAt, answers_by, setup_of}
 use Rattle.tl_protocol.specs.Stands.{StandsFor}
 use Rattle.tl_protocol.specs.World.{World}
-use Rattle.tl_run.specs.declared.event.Event.{Event}
-use Rattle.tl_run.specs.declared.event.Journal.{Journal}
-use Rattle.tl_run.specs.Journal.{entries_told, session_of}
-use Rattle.tl_run.specs.Binding.{IsBound}
-use Rattle.tl_run.specs.Law.{Holds}
-use Rattle.tl_run.specs.Schedule.{vanish_of}
+use Rattle.tl_journal.specs.declared.event.Event.{Event}
+use Rattle.tl_journal.specs.declared.event.Journal.{Journal}
+use Rattle.tl_journal.specs.Journal.{entries_told, session_of}
+use Rattle.tl_journal.specs.Binding.{IsBound}
+use Rattle.tl_journal.specs.Law.{Holds}
+use Rattle.tl_journal.specs.Schedule.{vanish_of}
 use Rattle.tl_script.specs.declared.fault.ScriptKind.{ScriptKind}
 use Rattle.tl_script.specs.Script.{script_of}
 use Rattle.tl_render.specs.Printed.{printed}
-use Rattle.tl_outcome.specs.Promises.{Ended}
-use Rattle.tl_outcome.specs.Run.{HasRun}
+use Rattle.tl_journal.specs.Promises.{Ended}
+use Rattle.tl_journal.specs.Outcome.{HasRun}
 use Rattle.tell.specs.declared.ended.Reason.{Reason}
 use Rattle.tell.specs.declared.ended.Reason.TheVariants as reason
 use Rattle.tell.specs.Words.{words_of}

@@ -4,7 +4,7 @@ ghost use Rattle.tell.specs.Status.{status_of};
 use std::alloc::Global;
 use thiserror::Error;
 use tl_base::Items;
-use tl_run::Journal;
+use tl_journal::Journal;
 use tl_script::ScriptKind;
 
 /// Why a call of the program ended. The texts are the lines that the program writes on standard error.

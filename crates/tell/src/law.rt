@@ -1,7 +1,7 @@
 ghost use Rattle.tell.specs.Promise.{RunsAreOneHistory};
 
-use tl_outcome::runs_are_complete;
-use tl_run::every_journal_is_one_history;
+use tl_journal::runs_are_complete;
+use tl_journal::every_journal_is_one_history;
 
 /// What stands of each run, by the laws of the crates below. There is no code here.
 pub fn every_run_is_one_history()

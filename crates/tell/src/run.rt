@@ -1,7 +1,7 @@
 //! The top call.
 
 ghost use Rattle.std.specs.Prelude.{◌≡◌, ◌⊎◌, ◌≤◌, ◌<◌, ◌^◌, IfOk, false, length};
-ghost use Rattle.tl_run.specs.Binding.{IsBound};
+ghost use Rattle.tl_journal.specs.Binding.{IsBound};
 ghost use Rattle.tell.specs.Promise.{Ends, IsFine, IsOneHistory, Keeps, text_of};
 ghost use Rattle.tell.specs.Status.{status_of};
 
@@ -14,7 +14,7 @@ use tl_base::{Bytes, NoMemory, Settings, Text};
 use tl_io::{Gate, Sink, Source, write_all};
 use tl_isolation::Script;
 use tl_render::render;
-use tl_run::Journal;
+use tl_journal::Journal;
 use tl_turns::run_script;
 
 /// A run with its text.

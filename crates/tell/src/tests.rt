@@ -5,7 +5,7 @@ use std::str;
 use std::test::Fail;
 use tl_base::{Bytes, Items, NoMemory, Text};
 use tl_io::{MemorySink, MemorySource, NoGate, SteadySink, SteadySource};
-use tl_run::Event;
+use tl_journal::Event;
 use tl_script::ScriptKind;
 
 /// A script, and what is printed over any number of shards and up to so many managers.

@@ -23,9 +23,9 @@ use Rattle.tl_isolation.specs.Tables.{table_of}
 use Rattle.tl_isolation.proofs.Lookups.{all_map}
 use Rattle.tl_protocol.specs.Store.{Key, over, same_key}
 use Rattle.tl_protocol.proofs.Laid.{get_laid}
-use Rattle.tl_run.specs.Takes.{view_changed}
-use Rattle.tl_run.proofs.KeyOrder.{tie}
-use Rattle.tl_run.proofs.Records.{each_record}
+use Rattle.tl_journal.specs.Takes.{view_changed}
+use Rattle.tl_journal.proofs.KeyOrder.{tie}
+use Rattle.tl_journal.proofs.Records.{each_record}
 use Rattle.tl_answer.specs.Own.{OwnSuits, StandsUnderKey}
 use Rattle.tl_answer.proofs.Laid.{get_both, laid, row_in, rows_laid, viewed}
 

@@ -15,7 +15,7 @@ use Rattle.tl_write.specs.Tables.{Tables, is_in, laid_over, laid_rows, records_i
 use Rattle.tl_isolation.specs.Tables.{rows_in}
 use Rattle.tl_protocol.specs.Store.{Key, last_of, over, same_key, written}
 use Rattle.tl_protocol.proofs.Laid.{get_laid}
-use Rattle.tl_run.proofs.KeyOrder.{in_table, tie}
+use Rattle.tl_journal.proofs.KeyOrder.{in_table, tie}
 
 abbrev Row : Type 0
 Row = List Value

@@ -6,7 +6,7 @@ use Rattle.tl_schema.specs.declared.catalog.Table.{Table}
 use Rattle.tl_write.specs.declared.write.Write.{Write}
 use Rattle.tl_write.specs.Tables.{laid_rows}
 use Rattle.tl_isolation.specs.Tables.{rows_in, table_of}
-use Rattle.tl_run.specs.Takes.{tables_seen, view_read}
+use Rattle.tl_journal.specs.Takes.{tables_seen, view_read}
 use Rattle.tl_answer.proofs.Laid.{rows_laid}
 
 -- rows with the own writes of their table over them are what is seen of it

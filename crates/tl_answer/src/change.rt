@@ -2,7 +2,7 @@ ghost use Rattle.std.specs.Prelude.{◌≡◌, [], ◌∷◌, Some, Result, IfOk
 ghost use Rattle.tl_isolation.specs.declared.bound.Bound.TheVariants as bound;
 ghost use Rattle.tl_isolation.specs.Meaning.{change_of, refusal_of, told_of};
 ghost use Rattle.tl_isolation.specs.Step.{own_after};
-ghost use Rattle.tl_run.specs.Takes.{own_said, view_changed};
+ghost use Rattle.tl_journal.specs.Takes.{own_said, view_changed};
 ghost use Rattle.tl_write.specs.Change.{number_of};
 ghost use Rattle.tl_write.specs.Fault.{Tells};
 ghost use Rattle.tl_write.specs.declared.fault.ChangeFault.{ChangeFault};

@@ -3,7 +3,7 @@ ghost use Rattle.tl_values.specs.declared.value.Value.{Value};
 ghost use Rattle.tl_algebra.specs.Select.{Tells};
 ghost use Rattle.tl_isolation.specs.Meaning.{QueryAnswers};
 ghost use Rattle.tl_plan.specs.Plan.{numbers_of};
-ghost use Rattle.tl_run.specs.Takes.{tables_seen};
+ghost use Rattle.tl_journal.specs.Takes.{tables_seen};
 
 use crate::seen::tables_seen;
 use std::alloc::Global;

@@ -2,7 +2,7 @@
 
 ghost use Rattle.std.specs.Prelude.{◌≡◌, IfOk, map};
 ghost use Rattle.tl_isolation.specs.Tables.{rows_in};
-ghost use Rattle.tl_run.specs.Takes.{tables_seen, view_read};
+ghost use Rattle.tl_journal.specs.Takes.{tables_seen, view_read};
 
 use crate::table::table_of;
 use std::alloc::Global;

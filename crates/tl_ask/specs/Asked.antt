@@ -3,8 +3,8 @@ use Rattle.std.specs.Prelude.{ℕ, List}
 use Rattle.tl_base.specs.declared.place.Settings.{Settings}
 use Rattle.tl_base.specs.declared.store.StoreRequest.{StoreRequest}
 use Rattle.tl_manager.specs.declared.request.Request.TheVariants as request
-use Rattle.tl_run.specs.Ask.{Ask}
-use Rattle.tl_run.specs.Bytes.{place_of, shard_at, written}
+use Rattle.tl_journal.specs.Ask.{Ask}
+use Rattle.tl_journal.specs.Bytes.{place_of, shard_at, written}
 use Rattle.tl_ask.specs.declared.asked.Asked.{Asked}
 
 abbrev pub asked : Settings → Ask → Asked

@@ -5,9 +5,9 @@ use Rattle.tl_manager.specs.declared.request.ManagerReply.{ManagerReply}
 use Rattle.tl_manager.specs.declared.request.ManagerRequest.TheVariants as manager
 use Rattle.tl_manager.specs.declared.request.Reply.{Reply}
 use Rattle.tl_protocol.specs.Store.{Cell, CommitsCell, LogCell}
-use Rattle.tl_run.specs.Ask as ask
-use Rattle.tl_run.specs.Ask.{Heard, Strange}
-use Rattle.tl_run.specs.Bytes.{heard}
+use Rattle.tl_journal.specs.Ask as ask
+use Rattle.tl_journal.specs.Ask.{Heard, Strange}
+use Rattle.tl_journal.specs.Bytes.{heard}
 use Rattle.tl_ask.specs.declared.heard.Page.{Page}
 use Rattle.tl_ask.specs.declared.heard.StoreOutcome.{StoreOutcome}
 use Rattle.tl_ask.specs.declared.heard.StoreOutcome.TheVariants as outcome

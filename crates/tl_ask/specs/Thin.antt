@@ -4,8 +4,8 @@ use Rattle.std.specs.Prelude.{Bool, true, false, List, [], ◌∷◌, Option, So
 use Rattle.tl_manager.specs.State.{opening_copy}
 use Rattle.tl_protocol.specs.Store.{CommitsCell}
 use Rattle.tl_protocol.specs.World.{Txn, Loaded}
-use Rattle.tl_run.specs.Reads.{Read, Point, Range}
-use Rattle.tl_run.specs.Node.{Doing, Reading, Stores, Removes, Closing, Stripping, Finishing}
+use Rattle.tl_journal.specs.Reads.{Read, Point, Range}
+use Rattle.tl_journal.specs.Node.{Doing, Reading, Stores, Removes, Closing, Stripping, Finishing}
 
 abbrev pub nothing_loaded : Loaded
 nothing_loaded = record { key = []; stamp = 0; versions = [] }

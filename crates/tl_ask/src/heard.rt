@@ -80,7 +80,7 @@ pub struct Found {
 }
 
 impl Model for Found {
-    ghost use Rattle.tl_run.specs.Ask as ask;
+    ghost use Rattle.tl_journal.specs.Ask as ask;
 
     ghost Value = { ask.Found };
 

@@ -3,8 +3,8 @@
 ghost use Rattle.std.specs.Prelude.{◌≡◌, IfOk};
 ghost use Rattle.std.specs.Option.{option_copied};
 ghost use Rattle.tl_descriptor.specs.Reading as sets;
-ghost use Rattle.tl_run.specs.Ask.{LoadCommits, DrawNumbers};
-ghost use Rattle.tl_run.specs.Bytes.{commits_in, found_in, heard, log_in, page_in, record_in};
+ghost use Rattle.tl_journal.specs.Ask.{LoadCommits, DrawNumbers};
+ghost use Rattle.tl_journal.specs.Bytes.{commits_in, found_in, heard, log_in, page_in, record_in};
 ghost use Rattle.tl_versions.specs.Reading as cells;
 ghost use Rattle.tl_ask.specs.Hears.{commits_or_strange, hears_log, hears_manager, hears_page, hears_record, hears_store, log_or_strange, numbers_or_strange, page_or_strange, record_or_strange, store_or_strange, told_or_strange};
 

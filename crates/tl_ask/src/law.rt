@@ -4,8 +4,8 @@ ghost use Rattle.tl_logrec.specs.declared.entry.LogEntry.{LogEntry};
 ghost use Rattle.tl_manager.specs.declared.request.ManagerRequest.{ManagerRequest};
 ghost use Rattle.tl_manager.specs.declared.request.Reply.{Reply};
 ghost use Rattle.tl_versions.specs.declared.version.Version.{Version};
-ghost use Rattle.tl_run.specs.Ask.{StoreCommits, LoadLog, StoreLog, LoadRecord, StoreRecord, ReadPage, AskManager};
-ghost use Rattle.tl_run.specs.Bytes.{heard};
+ghost use Rattle.tl_journal.specs.Ask.{StoreCommits, LoadLog, StoreLog, LoadRecord, StoreRecord, ReadPage, AskManager};
+ghost use Rattle.tl_journal.specs.Bytes.{heard};
 ghost use Rattle.tl_ask.specs.Hears.{hears_log, hears_manager, hears_page, hears_record, hears_store};
 
 /// What a reply says depends on the kind of the request alone.

@@ -1,5 +1,5 @@
 ghost use Rattle.std.specs.Prelude.{◌≡◌, ◌≤◌, ◌<◌};
-ghost use Rattle.tl_run.specs.Bytes.{home_of};
+ghost use Rattle.tl_journal.specs.Bytes.{home_of};
 
 use std::marker::Model;
 use tl_base::{NodeId, Settings};

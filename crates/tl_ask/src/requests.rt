@@ -4,8 +4,8 @@ ghost use Rattle.std.specs.Prelude.{◌≡◌, IfOk};
 ghost use Rattle.tl_base.specs.declared.store.StoreRequest.TheVariants as store;
 ghost use Rattle.tl_logrec.specs.declared.entry.LogEntry.{LogEntry};
 ghost use Rattle.tl_logrec.specs.Entry.{spelling};
-ghost use Rattle.tl_run.specs.Ask.{LoadCommits, StoreCommits, LoadLog, StoreLog, LoadRecord, StoreRecord, ReadPage, DrawNumbers, AskManager};
-ghost use Rattle.tl_run.specs.Bytes.{commits_key, counter_key, log_key, shard_at};
+ghost use Rattle.tl_journal.specs.Ask.{LoadCommits, StoreCommits, LoadLog, StoreLog, LoadRecord, StoreRecord, ReadPage, DrawNumbers, AskManager};
+ghost use Rattle.tl_journal.specs.Bytes.{commits_key, counter_key, log_key, shard_at};
 ghost use Rattle.tl_ask.specs.Asked.{asked, at_key};
 
 use crate::asked::Asked;

@@ -19,13 +19,13 @@ use Rattle.tl_protocol.specs.Move.{is_empty}
 use Rattle.tl_protocol.specs.Next.{end_answer}
 use Rattle.tl_protocol.specs.Store.{Key, CommitsCell, LogCell}
 use Rattle.tl_protocol.specs.World.{Stage, Fresh, Opened, Answering, Txn, Loaded, Decision}
-use Rattle.tl_run.specs.Ask.{Ask, LoadCommits, StoreCommits, LoadLog, StoreLog, LoadRecord, StoreRecord, ReadPage, DrawNumbers, AskManager, Heard, Commits, Record, Stored, Moved}
-use Rattle.tl_run.specs.Asks.{Course, ToRead, ToCommit, asks, asks_finish, asks_read, asks_removing, asks_storing, asks_stripping}
-use Rattle.tl_run.specs.Bytes.{heard}
-use Rattle.tl_run.specs.Node.{Storing, Removing, Claimed, Lost, Doing, Inside, Reading, Trying, Stores, Removes, Closing, Ending, Stripping, Finishing, Stopped, Node, owed_by}
-use Rattle.tl_run.specs.Reads.{Read, Point, Range, Reads, tables_read}
-use Rattle.tl_run.specs.Strange.{is_stopped}
-use Rattle.tl_run.specs.Takes.{after_reply, goes_on, said, takes_closing, takes_commit, takes_finishing, takes_read, takes_removing, takes_storing, takes_stripping, takes_trying, with_doing}
+use Rattle.tl_journal.specs.Ask.{Ask, LoadCommits, StoreCommits, LoadLog, StoreLog, LoadRecord, StoreRecord, ReadPage, DrawNumbers, AskManager, Heard, Commits, Record, Stored, Moved}
+use Rattle.tl_journal.specs.Asks.{Course, ToRead, ToCommit, asks, asks_finish, asks_read, asks_removing, asks_storing, asks_stripping}
+use Rattle.tl_journal.specs.Bytes.{heard}
+use Rattle.tl_journal.specs.Node.{Storing, Removing, Claimed, Lost, Doing, Inside, Reading, Trying, Stores, Removes, Closing, Ending, Stripping, Finishing, Stopped, Node, owed_by}
+use Rattle.tl_journal.specs.Reads.{Read, Point, Range, Reads, tables_read}
+use Rattle.tl_journal.specs.Strange.{is_stopped}
+use Rattle.tl_journal.specs.Takes.{after_reply, goes_on, said, takes_closing, takes_commit, takes_finishing, takes_read, takes_removing, takes_storing, takes_stripping, takes_trying, with_doing}
 use Rattle.tl_ask.specs.Thin.{bare, thin_commits, thin_loaded, thin_read}
 use Rattle.tl_node.specs.Seen.{seen, settled_by}
 

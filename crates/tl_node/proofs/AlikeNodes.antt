@@ -11,12 +11,12 @@ use Rattle.tl_isolation.specs.declared.entry.Answer.{Answer}
 use Rattle.tl_protocol.specs.Move.{is_empty}
 use Rattle.tl_protocol.specs.Next.{log_cell}
 use Rattle.tl_protocol.specs.World.{Txn}
-use Rattle.tl_run.specs.Ask.{LoadCommits, AskManager, Heard}
-use Rattle.tl_run.specs.Asks.{Course, ToRead, ToCommit, asks_doing, asks_finish, asks_inside, asks_read, asks_removing, asks_storing, asks_stripping, course_in, other_manager, store_trying}
-use Rattle.tl_run.specs.Bytes.{heard}
-use Rattle.tl_run.specs.Node.{Doing, Inside, Reading, Trying, Stores, Removes, Closing, Stripping, Finishing, Node}
-use Rattle.tl_run.specs.Reads.{Reads}
-use Rattle.tl_run.specs.Takes.{takes_commit, takes_doing, takes_inside, with_doing}
+use Rattle.tl_journal.specs.Ask.{LoadCommits, AskManager, Heard}
+use Rattle.tl_journal.specs.Asks.{Course, ToRead, ToCommit, asks_doing, asks_finish, asks_inside, asks_read, asks_removing, asks_storing, asks_stripping, course_in, other_manager, store_trying}
+use Rattle.tl_journal.specs.Bytes.{heard}
+use Rattle.tl_journal.specs.Node.{Doing, Inside, Reading, Trying, Stores, Removes, Closing, Stripping, Finishing, Node}
+use Rattle.tl_journal.specs.Reads.{Reads}
+use Rattle.tl_journal.specs.Takes.{takes_commit, takes_doing, takes_inside, with_doing}
 use Rattle.tl_ask.specs.Thin.{thin, thin_commits, thin_loaded, thin_read}
 use Rattle.tl_node.specs.After.{heard_by}
 use Rattle.tl_node.specs.Seen.{settled, settled_by}

@@ -8,14 +8,14 @@ use Rattle.tl_isolation.specs.declared.state.Commit.{Commit as Committed}
 use Rattle.tl_protocol.specs.Store.{CommitsCell}
 use Rattle.tl_protocol.specs.World.{Txn, Loaded, Decision}
 use Rattle.tl_write.specs.declared.write.Write.{Write}
-use Rattle.tl_run.specs.Ask.{Heard, Commits, Stored}
-use Rattle.tl_run.specs.Asks.{Course, course_in}
-use Rattle.tl_run.specs.Memory.{is_ending}
-use Rattle.tl_run.specs.Node.{Storing, Lost, Doing, Inside, Reading, Stores, Closing, Finishing, Node, owed_by}
-use Rattle.tl_run.specs.Reads.{Reads}
-use Rattle.tl_run.specs.Says.{says_closing, says_doing, says_finishing, says_inside, says_read, says_storing}
-use Rattle.tl_run.specs.Strange.{is_odd_for}
-use Rattle.tl_run.specs.Takes.{MeansDoing, MeansInside, MeansRead, after_reply}
+use Rattle.tl_journal.specs.Ask.{Heard, Commits, Stored}
+use Rattle.tl_journal.specs.Asks.{Course, course_in}
+use Rattle.tl_journal.specs.Memory.{is_ending}
+use Rattle.tl_journal.specs.Node.{Storing, Lost, Doing, Inside, Reading, Stores, Closing, Finishing, Node, owed_by}
+use Rattle.tl_journal.specs.Reads.{Reads}
+use Rattle.tl_journal.specs.Says.{says_closing, says_doing, says_finishing, says_inside, says_read, says_storing}
+use Rattle.tl_journal.specs.Strange.{is_odd_for}
+use Rattle.tl_journal.specs.Takes.{MeansDoing, MeansInside, MeansRead, after_reply}
 use Rattle.tl_ask.specs.Thin.{bare, thin, thin_commits, thin_loaded, thin_read}
 use Rattle.tl_node.specs.Seen.{settled, settled_by}
 use Rattle.tl_node.proofs.Alike.{after_thin, settled_elim}

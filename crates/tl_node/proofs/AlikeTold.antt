@@ -12,14 +12,14 @@ use Rattle.tl_isolation.specs.declared.entry.Answer.{Answer}
 use Rattle.tl_isolation.specs.declared.entry.Answer.TheVariants as answer
 use Rattle.tl_isolation.specs.declared.entry.Said.{Said}
 use Rattle.tl_isolation.specs.declared.state.Commit.{Commit}
-use Rattle.tl_run.specs.Ask.{Ask, Heard}
-use Rattle.tl_run.specs.Asks.{asks}
-use Rattle.tl_run.specs.Bytes.{heard}
-use Rattle.tl_run.specs.Memory.{has_said, is_ending, unsaid}
-use Rattle.tl_run.specs.Node.{Node, owed_by}
-use Rattle.tl_run.specs.Says.{says_at}
-use Rattle.tl_run.specs.Strange.{is_odd_for, is_stopped, is_strange}
-use Rattle.tl_run.specs.Takes.{MayMean, takes}
+use Rattle.tl_journal.specs.Ask.{Ask, Heard}
+use Rattle.tl_journal.specs.Asks.{asks}
+use Rattle.tl_journal.specs.Bytes.{heard}
+use Rattle.tl_journal.specs.Memory.{has_said, is_ending, unsaid}
+use Rattle.tl_journal.specs.Node.{Node, owed_by}
+use Rattle.tl_journal.specs.Says.{says_at}
+use Rattle.tl_journal.specs.Strange.{is_odd_for, is_stopped, is_strange}
+use Rattle.tl_journal.specs.Takes.{MayMean, takes}
 use Rattle.tl_node.specs.After.{IsTold, answer_in, heard_by, hears, marked, owed_left, said_so, statement_in}
 use Rattle.tl_node.specs.Fits.{OwnSuitsNode}
 use Rattle.tl_node.specs.Seen.{seen}

@@ -13,7 +13,7 @@ use Rattle.tl_isolation.specs.declared.bound.Bound.TheVariants as bound
 use Rattle.tl_isolation.specs.declared.entry.Answer.{Answer}
 use Rattle.tl_answer.specs.Own.{OwnSuits}
 use Rattle.tl_plan.specs.Plan.{numbers_of}
-use Rattle.tl_run.specs.Takes.{Means, own_said, tables_seen}
+use Rattle.tl_journal.specs.Takes.{Means, own_said, tables_seen}
 use Rattle.tl_txn.specs.Calls.{IsReady, own_in, rows_taken, with_own}
 use Rattle.tl_txn.specs.declared.phase.Phase.{Phase}
 use Rattle.tl_txn.specs.declared.phase.Phase.TheVariants as phase

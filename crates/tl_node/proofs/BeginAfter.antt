@@ -19,14 +19,14 @@ use Rattle.tl_isolation.specs.declared.entry.Answer.TheVariants as answer
 use Rattle.tl_isolation.specs.declared.entry.Entry.{Entry}
 use Rattle.tl_isolation.specs.declared.state.Commit.{Commit}
 use Rattle.tl_protocol.specs.World.{Fresh}
-use Rattle.tl_run.specs.Ask.{Ask, AskManager, Heard, Told}
-use Rattle.tl_run.specs.Asks.{Course, ToBegin, asks_outside, course_outside}
-use Rattle.tl_run.specs.Bytes.{heard, home_of}
-use Rattle.tl_run.specs.Memory.{is_ending, unsaid}
-use Rattle.tl_run.specs.Node.{Doing, Noted, Node}
-use Rattle.tl_run.specs.Says.{says_doing}
-use Rattle.tl_run.specs.Strange.{is_strange}
-use Rattle.tl_run.specs.Takes.{takes_doing}
+use Rattle.tl_journal.specs.Ask.{Ask, AskManager, Heard, Told}
+use Rattle.tl_journal.specs.Asks.{Course, ToBegin, asks_outside, course_outside}
+use Rattle.tl_journal.specs.Bytes.{heard, home_of}
+use Rattle.tl_journal.specs.Memory.{is_ending, unsaid}
+use Rattle.tl_journal.specs.Node.{Doing, Noted, Node}
+use Rattle.tl_journal.specs.Says.{says_doing}
+use Rattle.tl_journal.specs.Strange.{is_strange}
+use Rattle.tl_journal.specs.Takes.{takes_doing}
 use Rattle.tl_ask.specs.Hears.{hears_manager}
 use Rattle.tl_ask.specs.Thin.{thin}
 use Rattle.tl_txn.specs.After.{IsKnown, IsTaken, IsTold, asked_next}

@@ -15,13 +15,13 @@ use Rattle.tl_isolation.specs.declared.entry.Answer.TheVariants as answer
 use Rattle.tl_isolation.specs.declared.entry.Entry.{Entry}
 use Rattle.tl_isolation.specs.declared.state.Commit.{Commit}
 use Rattle.tl_protocol.specs.World.{Fresh}
-use Rattle.tl_run.specs.Ask.{Heard, Commits, Numbers, Told}
-use Rattle.tl_run.specs.Asks.{Course, ToBegin, asks_doing, course_outside}
-use Rattle.tl_run.specs.Node.{Outside, Noted, Drawing, Bringing, Node}
-use Rattle.tl_run.specs.Says as says
-use Rattle.tl_run.specs.Strange.{is_odd_for, is_stopped}
-use Rattle.tl_run.specs.Takes as law
-use Rattle.tl_run.specs.Takes.{takes_doing, with_doing}
+use Rattle.tl_journal.specs.Ask.{Heard, Commits, Numbers, Told}
+use Rattle.tl_journal.specs.Asks.{Course, ToBegin, asks_doing, course_outside}
+use Rattle.tl_journal.specs.Node.{Outside, Noted, Drawing, Bringing, Node}
+use Rattle.tl_journal.specs.Says as says
+use Rattle.tl_journal.specs.Strange.{is_odd_for, is_stopped}
+use Rattle.tl_journal.specs.Takes as law
+use Rattle.tl_journal.specs.Takes.{takes_doing, with_doing}
 use Rattle.tl_txn.specs.Doing.{doing_of}
 use Rattle.tl_txn.specs.Marks.{entries_of}
 use Rattle.tl_txn.specs.Taken as code

@@ -7,8 +7,8 @@ use Rattle.std.proofs.lemmas.Bool.Decides.{nat_tests}
 use Rattle.tl_protocol.specs.Move.{is_empty}
 use Rattle.tl_isolation.specs.declared.bound.Bound.{Bound}
 use Rattle.tl_isolation.specs.declared.script.Session.{Session}
-use Rattle.tl_run.specs.Asks.{asks}
-use Rattle.tl_run.specs.Node.{Doing, Outside, Node, opening_node}
+use Rattle.tl_journal.specs.Asks.{asks}
+use Rattle.tl_journal.specs.Node.{Doing, Outside, Node, opening_node}
 use Rattle.tl_node.specs.Fits.{FitsTodo, IsFit, IsOpening}
 use Rattle.tl_node.specs.New.{IsNew}
 use Rattle.tl_node.specs.Seen.{seen}

@@ -14,11 +14,11 @@ use Rattle.tl_manager.specs.declared.request.Reply.{Reply}
 use Rattle.tl_manager.specs.declared.request.Reply.TheVariants as reply
 use Rattle.tl_protocol.specs.Told.{count_in}
 use Rattle.tl_protocol.specs.World.{Fresh, Opened}
-use Rattle.tl_run.specs.Ask.{Told}
-use Rattle.tl_run.specs.Memory.{unsaid}
-use Rattle.tl_run.specs.Node.{Noted, Inside, Node}
-use Rattle.tl_run.specs.Says.{says_at}
-use Rattle.tl_run.specs.Takes.{takes}
+use Rattle.tl_journal.specs.Ask.{Told}
+use Rattle.tl_journal.specs.Memory.{unsaid}
+use Rattle.tl_journal.specs.Node.{Noted, Inside, Node}
+use Rattle.tl_journal.specs.Says.{says_at}
+use Rattle.tl_journal.specs.Takes.{takes}
 use Rattle.tl_ask.specs.Hears.{hears_manager}
 use Rattle.tl_txn.specs.Doing.{txn_in}
 use Rattle.tl_txn.specs.Taken.{opened}

@@ -5,10 +5,10 @@ use Rattle.tl_manager.specs.declared.mark.Mark.{Mark}
 use Rattle.tl_manager.specs.declared.request.ManagerRequest.TheVariants as request
 use Rattle.tl_manager.specs.declared.request.Reply.{Reply}
 use Rattle.tl_isolation.specs.declared.bound.Bound.{Bound}
-use Rattle.tl_run.specs.Ask.{Heard}
-use Rattle.tl_run.specs.Asks.{Course as TheCourse, ToIdle, asks_inside, course_in}
-use Rattle.tl_run.specs.Bytes.{heard, home_of}
-use Rattle.tl_run.specs.Node.{Inside, Node}
+use Rattle.tl_journal.specs.Ask.{Heard}
+use Rattle.tl_journal.specs.Asks.{Course as TheCourse, ToIdle, asks_inside, course_in}
+use Rattle.tl_journal.specs.Bytes.{heard, home_of}
+use Rattle.tl_journal.specs.Node.{Inside, Node}
 use Rattle.tl_ask.specs.Hears.{hears_manager}
 use Rattle.tl_ask.specs.declared.asked.Asked.{Asked}
 use Rattle.tl_txn.specs.Calls.{IsReady}

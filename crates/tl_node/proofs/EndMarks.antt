@@ -10,7 +10,7 @@ use Rattle.tl_manager.specs.declared.mark.TxnStep.TheVariants as step
 use Rattle.tl_versions.specs.Versions.{is_written, stranger}
 use Rattle.tl_write.specs.declared.write.Write.{Write}
 use Rattle.tl_protocol.specs.Store.{Cell, CommitsCell}
-use Rattle.tl_run.specs.Ask.{StoreCommits, Heard, Commits, Record, Stored, Moved}
+use Rattle.tl_journal.specs.Ask.{StoreCommits, Heard, Commits, Record, Stored, Moved}
 use Rattle.tl_txn.specs.Attempt.{Attempt}
 use Rattle.tl_txn.specs.Taken as code
 use Rattle.tl_txn.specs.Taken.{Taken, takes, unless_odd}

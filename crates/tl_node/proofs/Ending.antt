@@ -26,15 +26,15 @@ use Rattle.tl_isolation.specs.declared.entry.Said.{Said}
 use Rattle.tl_isolation.specs.declared.state.Commit.{Commit as Committed}
 use Rattle.tl_protocol.specs.Next.{end_answer, log_cell, own_version}
 use Rattle.tl_protocol.specs.World as protocol
-use Rattle.tl_run.specs.Ask.{Ask, Heard}
-use Rattle.tl_run.specs.Asks.{asks, asks_doing, asks_removing, asks_storing}
-use Rattle.tl_run.specs.Bytes.{heard}
-use Rattle.tl_run.specs.Memory.{is_ending, unsaid}
-use Rattle.tl_run.specs.Node.{Doing, Outside, Inside, Node}
-use Rattle.tl_run.specs.Node as law
-use Rattle.tl_run.specs.Says.{says_at}
-use Rattle.tl_run.specs.Strange.{is_strange}
-use Rattle.tl_run.specs.Takes.{takes_doing, with_doing}
+use Rattle.tl_journal.specs.Ask.{Ask, Heard}
+use Rattle.tl_journal.specs.Asks.{asks, asks_doing, asks_removing, asks_storing}
+use Rattle.tl_journal.specs.Bytes.{heard}
+use Rattle.tl_journal.specs.Memory.{is_ending, unsaid}
+use Rattle.tl_journal.specs.Node.{Doing, Outside, Inside, Node}
+use Rattle.tl_journal.specs.Node as law
+use Rattle.tl_journal.specs.Says.{says_at}
+use Rattle.tl_journal.specs.Strange.{is_strange}
+use Rattle.tl_journal.specs.Takes.{takes_doing, with_doing}
 use Rattle.tl_ask.specs.Thin.{loaded_if, thin}
 use Rattle.tl_txn.specs.After.{IsKnown, IsTaken, IsTold, Stops, asked_next, does}
 use Rattle.tl_txn.specs.Attempt.{txn_of}

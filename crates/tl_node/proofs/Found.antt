@@ -6,7 +6,7 @@ use Rattle.tl_values.specs.declared.value.Value.{Value}
 use Rattle.tl_write.specs.declared.write.Write.{Write}
 use Rattle.tl_isolation.specs.declared.bound.Bound.{Bound}
 use Rattle.tl_isolation.specs.declared.entry.Answer.{Answer}
-use Rattle.tl_run.specs.Takes.{Means, own_said}
+use Rattle.tl_journal.specs.Takes.{Means, own_said}
 use Rattle.tl_txn.specs.Calls.{IsReady, own_in, with_own}
 use Rattle.tl_txn.specs.Doing.{txn_in}
 use Rattle.tl_txn.specs.declared.phase.Phase.{Phase}

@@ -13,13 +13,13 @@ use Rattle.tl_isolation.specs.declared.entry.Answer.{Answer}
 use Rattle.tl_isolation.specs.declared.entry.Answer.TheVariants as answer
 use Rattle.tl_isolation.specs.declared.state.Commit.{Commit}
 use Rattle.tl_protocol.specs.World.{Txn}
-use Rattle.tl_run.specs.Ask.{Heard, Told}
-use Rattle.tl_run.specs.Asks.{Course, ToIdle, course_in}
-use Rattle.tl_run.specs.Memory.{unsaid}
-use Rattle.tl_run.specs.Node.{Inside, Node}
-use Rattle.tl_run.specs.Says.{says_at, says_idle, says_inside}
-use Rattle.tl_run.specs.Strange.{is_odd_for, is_stopped, is_strange}
-use Rattle.tl_run.specs.Takes.{stopped, takes_idle, takes_inside}
+use Rattle.tl_journal.specs.Ask.{Heard, Told}
+use Rattle.tl_journal.specs.Asks.{Course, ToIdle, course_in}
+use Rattle.tl_journal.specs.Memory.{unsaid}
+use Rattle.tl_journal.specs.Node.{Inside, Node}
+use Rattle.tl_journal.specs.Says.{says_at, says_idle, says_inside}
+use Rattle.tl_journal.specs.Strange.{is_odd_for, is_stopped, is_strange}
+use Rattle.tl_journal.specs.Takes.{stopped, takes_idle, takes_inside}
 use Rattle.tl_ask.specs.Hears.{hears_manager}
 use Rattle.tl_txn.specs.Doing.{txn_in}
 use Rattle.tl_txn.specs.declared.phase.Open.{Open}

@@ -27,16 +27,16 @@ use Rattle.tl_plan.specs.Access.{accesses_of}
 use Rattle.tl_plan.specs.Plan.{numbers_of}
 use Rattle.tl_algebra.specs.declared.condition.Condition.{Condition}
 use Rattle.tl_protocol.specs.World.{Stage, Fresh, Opened, Answering, Txn}
-use Rattle.tl_run.specs.Ask.{Heard, Told}
-use Rattle.tl_run.specs.Asks.{Course, ToIdle, ToCommit, ToGiveUp, course_in, reading_course, statement_course}
-use Rattle.tl_run.specs.Memory.{unsaid}
+use Rattle.tl_journal.specs.Ask.{Heard, Told}
+use Rattle.tl_journal.specs.Asks.{Course, ToIdle, ToCommit, ToGiveUp, course_in, reading_course, statement_course}
+use Rattle.tl_journal.specs.Memory.{unsaid}
 use Rattle.tl_protocol.specs.Move.{is_empty}
-use Rattle.tl_run.specs.Node.{Doing, Inside, Node, Outside}
-use Rattle.tl_run.specs.Reads as law
-use Rattle.tl_run.specs.Reads.{all_reads, begin_reads, edit_reads, reads_of, tables_read}
-use Rattle.tl_run.specs.Says.{says_at, says_idle, says_inside}
-use Rattle.tl_run.specs.Takes.{MayMean, MeansInside, first_rows, tables_seen, takes, takes_inside, with_doing}
-use Rattle.tl_run.specs.Takes as law_takes
+use Rattle.tl_journal.specs.Node.{Doing, Inside, Node, Outside}
+use Rattle.tl_journal.specs.Reads as law
+use Rattle.tl_journal.specs.Reads.{all_reads, begin_reads, edit_reads, reads_of, tables_read}
+use Rattle.tl_journal.specs.Says.{says_at, says_idle, says_inside}
+use Rattle.tl_journal.specs.Takes.{MayMean, MeansInside, first_rows, tables_seen, takes, takes_inside, with_doing}
+use Rattle.tl_journal.specs.Takes as law_takes
 use Rattle.tl_txn.specs.Doing.{txn_in}
 use Rattle.tl_txn.specs.declared.phase.Open.{Open}
 use Rattle.tl_txn.specs.declared.phase.Phase.{Phase}

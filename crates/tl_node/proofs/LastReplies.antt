@@ -13,11 +13,11 @@ use Rattle.tl_isolation.specs.declared.entry.Entry.TheVariants as entry
 use Rattle.tl_isolation.specs.declared.entry.Said.{Said}
 use Rattle.tl_protocol.specs.Next.{end_answer}
 use Rattle.tl_protocol.specs.World as protocol
-use Rattle.tl_run.specs.Ask.{Heard, Told}
-use Rattle.tl_run.specs.Bytes.{home_of}
-use Rattle.tl_run.specs.Node.{Ending, Node}
-use Rattle.tl_run.specs.Strange.{is_stopped}
-use Rattle.tl_run.specs.Takes.{stopped, takes_ending}
+use Rattle.tl_journal.specs.Ask.{Heard, Told}
+use Rattle.tl_journal.specs.Bytes.{home_of}
+use Rattle.tl_journal.specs.Node.{Ending, Node}
+use Rattle.tl_journal.specs.Strange.{is_stopped}
+use Rattle.tl_journal.specs.Takes.{stopped, takes_ending}
 use Rattle.tl_ask.specs.Hears.{hears_manager}
 use Rattle.tl_txn.specs.Doing.{decided, doing_of}
 use Rattle.tl_txn.specs.declared.phase.Decision.{Decision}

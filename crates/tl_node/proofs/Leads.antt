@@ -6,10 +6,10 @@ use Rattle.tl_manager.specs.declared.request.ManagerRequest.TheVariants as reque
 use Rattle.tl_isolation.specs.declared.bound.Bound.{Bound}
 use Rattle.tl_protocol.specs.Move.{is_empty}
 use Rattle.tl_protocol.specs.World.{Txn}
-use Rattle.tl_run.specs.Ask.{LoadCommits, AskManager}
-use Rattle.tl_run.specs.Asks.{Course, ToIdle, ToCommit, ToGiveUp, asks_inside, course_in, other_manager, store_trying}
-use Rattle.tl_run.specs.Bytes.{home_of}
-use Rattle.tl_run.specs.Node.{Doing, Inside, Trying, Outside}
+use Rattle.tl_journal.specs.Ask.{LoadCommits, AskManager}
+use Rattle.tl_journal.specs.Asks.{Course, ToIdle, ToCommit, ToGiveUp, asks_inside, course_in, other_manager, store_trying}
+use Rattle.tl_journal.specs.Bytes.{home_of}
+use Rattle.tl_journal.specs.Node.{Doing, Inside, Trying, Outside}
 use Rattle.tl_ask.specs.Asked.{asked}
 use Rattle.tl_ask.specs.Thin.{thin}
 use Rattle.tl_ask.specs.declared.asked.Asked.{Asked}

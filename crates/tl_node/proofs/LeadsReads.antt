@@ -7,11 +7,11 @@ use Rattle.tl_isolation.specs.declared.bound.Bound.{Bound}
 use Rattle.tl_isolation.specs.declared.bound.Bound.TheVariants as bound
 use Rattle.tl_plan.specs.Plan.{accesses_in}
 use Rattle.tl_protocol.specs.World.{Txn}
-use Rattle.tl_run.specs.Ask.{Ask}
-use Rattle.tl_run.specs.Asks.{ToRead, asks_read, course_in, reading_course}
-use Rattle.tl_run.specs.Node.{Reading}
-use Rattle.tl_run.specs.Reads as law
-use Rattle.tl_run.specs.Reads.{Reads, all_reads, begin_reads, read_of}
+use Rattle.tl_journal.specs.Ask.{Ask}
+use Rattle.tl_journal.specs.Asks.{ToRead, asks_read, course_in, reading_course}
+use Rattle.tl_journal.specs.Node.{Reading}
+use Rattle.tl_journal.specs.Reads as law
+use Rattle.tl_journal.specs.Reads.{Reads, all_reads, begin_reads, read_of}
 use Rattle.tl_ask.specs.Asked.{asked}
 use Rattle.tl_txn.specs.Calls.{ask_read, reads}
 use Rattle.tl_txn.specs.Doing.{txn_in}

@@ -11,11 +11,11 @@ use Rattle.tl_isolation.specs.declared.entry.Answer.TheVariants as answer
 use Rattle.tl_isolation.specs.declared.entry.Entry.TheVariants as entry
 use Rattle.tl_isolation.specs.declared.entry.Said.{Said}
 use Rattle.tl_isolation.specs.declared.state.Commit.{Commit}
-use Rattle.tl_run.specs.Ask.{Heard}
-use Rattle.tl_run.specs.Memory.{is_ending, unsaid}
-use Rattle.tl_run.specs.Node.{Node}
-use Rattle.tl_run.specs.Says.{says_at}
-use Rattle.tl_run.specs.Takes.{MayMean, takes}
+use Rattle.tl_journal.specs.Ask.{Heard}
+use Rattle.tl_journal.specs.Memory.{is_ending, unsaid}
+use Rattle.tl_journal.specs.Node.{Node}
+use Rattle.tl_journal.specs.Says.{says_at}
+use Rattle.tl_journal.specs.Takes.{MayMean, takes}
 use Rattle.tl_node.specs.After.{ComesTo, IsHeld, Says, Stays, Wants, statement_in}
 use Rattle.tl_node.specs.Leaves.{Learns, Leaves, LeavesSo, learns}
 use Rattle.tl_node.specs.View.{StandsFor, value_of}

@@ -10,10 +10,10 @@ use Rattle.tl_isolation.specs.declared.bound.Bound.{Bound}
 use Rattle.tl_isolation.specs.declared.entry.Answer.{Answer}
 use Rattle.tl_isolation.specs.declared.entry.Said.{Said}
 use Rattle.tl_protocol.specs.World.{Fresh}
-use Rattle.tl_run.specs.Ask.{AskManager}
-use Rattle.tl_run.specs.Asks.{Course, ToIdle, ToRecover, asks, asks_outside, course_outside}
-use Rattle.tl_run.specs.Bytes.{home_of}
-use Rattle.tl_run.specs.Node.{Doing, Outside, Node}
+use Rattle.tl_journal.specs.Ask.{AskManager}
+use Rattle.tl_journal.specs.Asks.{Course, ToIdle, ToRecover, asks, asks_outside, course_outside}
+use Rattle.tl_journal.specs.Bytes.{home_of}
+use Rattle.tl_journal.specs.Node.{Doing, Outside, Node}
 use Rattle.tl_ask.specs.Asked.{asked}
 use Rattle.tl_txn.specs.Doing.{doing_of}
 use Rattle.tl_txn.specs.declared.phase.Phase.{Phase}

@@ -5,9 +5,9 @@ use Rattle.tl_schema.specs.declared.catalog.Catalog.{Catalog}
 use Rattle.tl_isolation.specs.declared.bound.Bound.{Bound}
 use Rattle.tl_isolation.specs.declared.bound.Bound.TheVariants as bound
 use Rattle.tl_protocol.specs.World as protocol
-use Rattle.tl_run.specs.Asks.{course_in, reading_course, statement_course}
-use Rattle.tl_run.specs.Node.{Inside}
-use Rattle.tl_run.specs.Reads.{all_reads, begin_reads}
+use Rattle.tl_journal.specs.Asks.{course_in, reading_course, statement_course}
+use Rattle.tl_journal.specs.Node.{Inside}
+use Rattle.tl_journal.specs.Reads.{all_reads, begin_reads}
 use Rattle.tl_txn.specs.Doing.{txn_in}
 use Rattle.tl_txn.specs.declared.phase.Open.{Open}
 use Rattle.tl_txn.specs.declared.phase.Phase.{Phase}

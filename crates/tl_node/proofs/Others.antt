@@ -15,13 +15,13 @@ use Rattle.tl_isolation.specs.declared.entry.Answer.TheVariants as answer
 use Rattle.tl_isolation.specs.declared.state.Commit.{Commit as Committed}
 use Rattle.tl_protocol.specs.Move.{is_empty}
 use Rattle.tl_protocol.specs.World as protocol
-use Rattle.tl_run.specs.Ask.{LoadCommits, StoreLog, AskManager, Told}
-use Rattle.tl_run.specs.Asks.{ToCommit, asks, asks_inside, course_in, other_manager, store_trying}
-use Rattle.tl_run.specs.Bytes.{heard}
-use Rattle.tl_run.specs.Node.{Doing, Outside, Inside, Trying, Node}
-use Rattle.tl_run.specs.Says.{says_at, says_inside}
-use Rattle.tl_run.specs.Strange.{is_odd_for, is_stopped, is_strange}
-use Rattle.tl_run.specs.Takes.{takes, takes_commit, takes_inside}
+use Rattle.tl_journal.specs.Ask.{LoadCommits, StoreLog, AskManager, Told}
+use Rattle.tl_journal.specs.Asks.{ToCommit, asks, asks_inside, course_in, other_manager, store_trying}
+use Rattle.tl_journal.specs.Bytes.{heard}
+use Rattle.tl_journal.specs.Node.{Doing, Outside, Inside, Trying, Node}
+use Rattle.tl_journal.specs.Says.{says_at, says_inside}
+use Rattle.tl_journal.specs.Strange.{is_odd_for, is_stopped, is_strange}
+use Rattle.tl_journal.specs.Takes.{takes, takes_commit, takes_inside}
 use Rattle.tl_ask.specs.Asked.{asked}
 use Rattle.tl_ask.specs.Hears.{hears_manager}
 use Rattle.tl_ask.specs.declared.asked.Asked.{Asked}

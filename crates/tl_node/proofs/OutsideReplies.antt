@@ -16,13 +16,13 @@ use Rattle.tl_manager.specs.declared.request.Reply.TheVariants as reply
 use Rattle.tl_isolation.specs.declared.bound.Bound.{Bound}
 use Rattle.tl_isolation.specs.declared.bound.Bound.TheVariants as bound
 use Rattle.tl_isolation.specs.declared.entry.Answer.TheVariants as answer
-use Rattle.tl_run.specs.Ask.{AskManager, Heard, Told}
-use Rattle.tl_run.specs.Asks.{Course, ToIdle, ToRecover, asks_doing, asks_outside, course_outside}
-use Rattle.tl_run.specs.Bytes.{heard, home_of}
-use Rattle.tl_run.specs.Node.{Outside, Recovering, Node, nodes_in}
-use Rattle.tl_run.specs.Says.{says_outside}
-use Rattle.tl_run.specs.Strange.{is_stopped, is_strange}
-use Rattle.tl_run.specs.Takes.{stopped, takes_outside}
+use Rattle.tl_journal.specs.Ask.{AskManager, Heard, Told}
+use Rattle.tl_journal.specs.Asks.{Course, ToIdle, ToRecover, asks_doing, asks_outside, course_outside}
+use Rattle.tl_journal.specs.Bytes.{heard, home_of}
+use Rattle.tl_journal.specs.Node.{Outside, Recovering, Node, nodes_in}
+use Rattle.tl_journal.specs.Says.{says_outside}
+use Rattle.tl_journal.specs.Strange.{is_stopped, is_strange}
+use Rattle.tl_journal.specs.Takes.{stopped, takes_outside}
 use Rattle.tl_schema.specs.declared.catalog.Catalog.{Catalog}
 use Rattle.tl_ask.specs.declared.asked.Asked.{Asked}
 use Rattle.tl_ask.specs.Hears.{hears_manager}

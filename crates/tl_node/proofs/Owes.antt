@@ -16,12 +16,12 @@ use Rattle.tl_isolation.specs.declared.bound.Bound.TheVariants as bound
 use Rattle.tl_isolation.specs.declared.entry.Answer.{Answer}
 use Rattle.tl_protocol.specs.Store.{CommitsCell, Key, LogCell}
 use Rattle.tl_protocol.specs.World.{Stage, Fresh, Opened, Answering, Txn, Loaded, Decision}
-use Rattle.tl_run.specs.Ask.{Ask, Heard, Commits, Log, Record, Stored, Moved, Numbers, Told}
-use Rattle.tl_run.specs.Asks.{Course, ToBegin, ToRead, ToIdle, ToCommit, ToGiveUp, ToRecover, asks, course_in, course_outside}
-use Rattle.tl_run.specs.Node.{Storing, Removing, Claimed, Lost, Doing, Outside, Noted, Drawing, Bringing, Inside, Reading, Trying, Stores, Removes, Closing, Ending, Recovering, ReadingLog, Stripping, Finishing, EndingLost, Stopped, Node, owed_by}
-use Rattle.tl_run.specs.Reads.{Read, Reads, all_reads, begin_reads, tables_read}
-use Rattle.tl_run.specs.Takes.{after_reply, by_flag, finds, goes_on, idles, learnt, next_duty, next_lost, said, takes, takes_bringing, takes_closing, takes_commit, takes_doing, takes_drawing, takes_end_lost, takes_ending, takes_finishing, takes_give_up, takes_idle, takes_inside, takes_log, takes_noted, takes_outside, takes_read, takes_recovering, takes_removing, takes_storing, takes_stripping, takes_trying}
-use Rattle.tl_run.specs.Bytes.{home_of}
+use Rattle.tl_journal.specs.Ask.{Ask, Heard, Commits, Log, Record, Stored, Moved, Numbers, Told}
+use Rattle.tl_journal.specs.Asks.{Course, ToBegin, ToRead, ToIdle, ToCommit, ToGiveUp, ToRecover, asks, course_in, course_outside}
+use Rattle.tl_journal.specs.Node.{Storing, Removing, Claimed, Lost, Doing, Outside, Noted, Drawing, Bringing, Inside, Reading, Trying, Stores, Removes, Closing, Ending, Recovering, ReadingLog, Stripping, Finishing, EndingLost, Stopped, Node, owed_by}
+use Rattle.tl_journal.specs.Reads.{Read, Reads, all_reads, begin_reads, tables_read}
+use Rattle.tl_journal.specs.Takes.{after_reply, by_flag, finds, goes_on, idles, learnt, next_duty, next_lost, said, takes, takes_bringing, takes_closing, takes_commit, takes_doing, takes_drawing, takes_end_lost, takes_ending, takes_finishing, takes_give_up, takes_idle, takes_inside, takes_log, takes_noted, takes_outside, takes_read, takes_recovering, takes_removing, takes_storing, takes_stripping, takes_trying}
+use Rattle.tl_journal.specs.Bytes.{home_of}
 use Rattle.tl_node.specs.Seen.{seen}
 use Rattle.tl_node.proofs.AlikeSays.{doing_owed}
 

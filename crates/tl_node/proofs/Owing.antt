@@ -18,14 +18,14 @@ use Rattle.tl_isolation.specs.declared.entry.Answer.{Answer}
 use Rattle.tl_isolation.specs.declared.entry.Entry.{Entry}
 use Rattle.tl_protocol.specs.Store.{Key, Cell, CommitsCell, LogCell}
 use Rattle.tl_protocol.specs.World.{Stage, Fresh, Opened, Answering, Txn, Loaded, Decision}
-use Rattle.tl_run.specs.Ask.{Heard, Commits, Log, Record, Page, Stored, Moved, Numbers, Told}
-use Rattle.tl_run.specs.Asks.{Course, ToBegin, ToRead, ToIdle, ToCommit, ToGiveUp, ToRecover, course_in, course_outside}
-use Rattle.tl_run.specs.Bytes.{home_of}
-use Rattle.tl_run.specs.Memory.{has_said}
-use Rattle.tl_run.specs.Node.{Storing, Removing, Claimed, Lost, Doing, Outside, Noted, Drawing, Bringing, Inside, Reading, Trying, Stores, Removes, Closing, Ending, Recovering, ReadingLog, Stripping, Finishing, EndingLost, Stopped, Node, owed_by}
-use Rattle.tl_run.specs.Reads.{Read, Point, Range, Reads, all_reads, begin_reads, take_cell, take_page, tables_read}
-use Rattle.tl_run.specs.Says.{says_doing, says_end_lost, says_recovered, says_recovering}
-use Rattle.tl_run.specs.Takes.{by_flag, finds, goes_on, idles, learnt, next_duty, next_lost, said, takes_bringing, takes_closing, takes_commit, takes_doing, takes_drawing, takes_end_lost, takes_ending, takes_finishing, takes_give_up, takes_idle, takes_inside, takes_log, takes_noted, takes_outside, takes_read, takes_recovering, takes_removing, takes_storing, takes_stripping, takes_trying, with_doing}
+use Rattle.tl_journal.specs.Ask.{Heard, Commits, Log, Record, Page, Stored, Moved, Numbers, Told}
+use Rattle.tl_journal.specs.Asks.{Course, ToBegin, ToRead, ToIdle, ToCommit, ToGiveUp, ToRecover, course_in, course_outside}
+use Rattle.tl_journal.specs.Bytes.{home_of}
+use Rattle.tl_journal.specs.Memory.{has_said}
+use Rattle.tl_journal.specs.Node.{Storing, Removing, Claimed, Lost, Doing, Outside, Noted, Drawing, Bringing, Inside, Reading, Trying, Stores, Removes, Closing, Ending, Recovering, ReadingLog, Stripping, Finishing, EndingLost, Stopped, Node, owed_by}
+use Rattle.tl_journal.specs.Reads.{Read, Point, Range, Reads, all_reads, begin_reads, take_cell, take_page, tables_read}
+use Rattle.tl_journal.specs.Says.{says_doing, says_end_lost, says_recovered, says_recovering}
+use Rattle.tl_journal.specs.Takes.{by_flag, finds, goes_on, idles, learnt, next_duty, next_lost, said, takes_bringing, takes_closing, takes_commit, takes_doing, takes_drawing, takes_end_lost, takes_ending, takes_finishing, takes_give_up, takes_idle, takes_inside, takes_log, takes_noted, takes_outside, takes_read, takes_recovering, takes_removing, takes_storing, takes_stripping, takes_trying, with_doing}
 
 -- the node owes these
 abbrev Owes : NodeSet → Node → Type 0

@@ -11,8 +11,8 @@ use Rattle.tl_write.specs.Tables.{is_in}
 use Rattle.tl_isolation.specs.declared.bound.Bound.{Bound}
 use Rattle.tl_isolation.specs.declared.bound.Bound.TheVariants as bound
 use Rattle.tl_isolation.specs.Tables.{table_of}
-use Rattle.tl_run.specs.Asks.{course_in}
-use Rattle.tl_run.specs.Node.{Doing, Inside, Reading, Node}
+use Rattle.tl_journal.specs.Asks.{course_in}
+use Rattle.tl_journal.specs.Node.{Doing, Inside, Reading, Node}
 use Rattle.tl_answer.specs.Own.{StandsUnderKey}
 use Rattle.tl_ask.specs.Thin.{thin}
 use Rattle.tl_node.specs.Fits.{OwnSuitsDoing, OwnSuitsNode, OwnSuitsStatement}

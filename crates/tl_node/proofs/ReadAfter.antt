@@ -21,16 +21,16 @@ use Rattle.tl_isolation.specs.declared.entry.Answer.TheVariants as answer
 use Rattle.tl_isolation.specs.declared.state.Commit.{Commit}
 use Rattle.tl_plan.specs.Plan.{numbers_of}
 use Rattle.tl_protocol.specs.World.{Txn}
-use Rattle.tl_run.specs.Ask.{Ask, ReadPage, Heard}
-use Rattle.tl_run.specs.Asks.{asks_read}
-use Rattle.tl_run.specs.Bytes.{heard}
-use Rattle.tl_run.specs.Memory.{unsaid}
-use Rattle.tl_run.specs.Node.{Reading, Node}
-use Rattle.tl_run.specs.Reads as law
-use Rattle.tl_run.specs.Reads.{Reads, after_read, next_table, read_of}
-use Rattle.tl_run.specs.Says.{says_read}
-use Rattle.tl_run.specs.Strange.{is_odd_for, is_strange, is_stopped}
-use Rattle.tl_run.specs.Takes.{MeansRead, after_reply, goes_on}
+use Rattle.tl_journal.specs.Ask.{Ask, ReadPage, Heard}
+use Rattle.tl_journal.specs.Asks.{asks_read}
+use Rattle.tl_journal.specs.Bytes.{heard}
+use Rattle.tl_journal.specs.Memory.{unsaid}
+use Rattle.tl_journal.specs.Node.{Reading, Node}
+use Rattle.tl_journal.specs.Reads as law
+use Rattle.tl_journal.specs.Reads.{Reads, after_read, next_table, read_of}
+use Rattle.tl_journal.specs.Says.{says_read}
+use Rattle.tl_journal.specs.Strange.{is_odd_for, is_strange, is_stopped}
+use Rattle.tl_journal.specs.Takes.{MeansRead, after_reply, goes_on}
 use Rattle.tl_ask.specs.Hears.{hears_page}
 use Rattle.tl_ask.specs.Thin.{thin_read}
 use Rattle.tl_txn.specs.After.{IsKnown, IsTaken, IsTold, asked_next}

@@ -14,9 +14,9 @@ use Rattle.tl_isolation.specs.declared.bound.Bound.{Bound}
 use Rattle.tl_isolation.specs.declared.bound.Bound.TheVariants as bound
 use Rattle.tl_isolation.specs.Tables.{table_of}
 use Rattle.tl_plan.specs.Plan.{accesses_in, edit_accesses, is_looked_up, numbers_of, point_at}
-use Rattle.tl_run.specs.Asks.{ToIdle, reading_course}
-use Rattle.tl_run.specs.Reads as law
-use Rattle.tl_run.specs.Reads.{Reads, after_read, all_reads, begin_reads, edit_reads, next_table, read_of, reads_of}
+use Rattle.tl_journal.specs.Asks.{ToIdle, reading_course}
+use Rattle.tl_journal.specs.Reads as law
+use Rattle.tl_journal.specs.Reads.{Reads, after_read, all_reads, begin_reads, edit_reads, next_table, read_of, reads_of}
 use Rattle.tl_ask.specs.Thin.{thin_read}
 use Rattle.tl_txn.specs.Calls.{awaited, without_rows}
 use Rattle.tl_txn.specs.declared.phase.Open.{Open}

@@ -20,13 +20,13 @@ use Rattle.tl_isolation.specs.declared.entry.Entry.{Entry}
 use Rattle.tl_plan.specs.Plan.{accesses_in, numbers_of}
 use Rattle.tl_protocol.specs.Move.{is_empty}
 use Rattle.tl_protocol.specs.World.{Txn}
-use Rattle.tl_run.specs.Ask.{Ask, Heard}
-use Rattle.tl_run.specs.Memory.{unsaid}
-use Rattle.tl_run.specs.Node.{Doing, Outside, Reading, Node}
-use Rattle.tl_run.specs.Reads as law
-use Rattle.tl_run.specs.Reads.{Reads, after_read, next_table, read_of, reads_of, tables_read}
-use Rattle.tl_run.specs.Says.{says_read}
-use Rattle.tl_run.specs.Takes.{MeansRead, goes_on, takes, with_doing}
+use Rattle.tl_journal.specs.Ask.{Ask, Heard}
+use Rattle.tl_journal.specs.Memory.{unsaid}
+use Rattle.tl_journal.specs.Node.{Doing, Outside, Reading, Node}
+use Rattle.tl_journal.specs.Reads as law
+use Rattle.tl_journal.specs.Reads.{Reads, after_read, next_table, read_of, reads_of, tables_read}
+use Rattle.tl_journal.specs.Says.{says_read}
+use Rattle.tl_journal.specs.Takes.{MeansRead, goes_on, takes, with_doing}
 use Rattle.tl_ask.specs.Asked.{asked}
 use Rattle.tl_manager.specs.declared.mark.Mark.{Mark}
 use Rattle.tl_manager.specs.declared.mark.TxnStep.TheVariants as step

@@ -24,14 +24,14 @@ use Rattle.tl_isolation.specs.declared.bound.Bound.TheVariants as bound
 use Rattle.tl_isolation.specs.declared.entry.Answer.{Answer}
 use Rattle.tl_isolation.specs.declared.entry.Answer.TheVariants as answer
 use Rattle.tl_isolation.specs.declared.state.Commit.{Commit}
-use Rattle.tl_run.specs.Ask.{Ask, StoreCommits, LoadLog, StoreLog, LoadRecord, StoreRecord, Heard}
-use Rattle.tl_run.specs.Asks.{asks, asks_stripping}
-use Rattle.tl_run.specs.Bytes.{heard, home_of}
-use Rattle.tl_run.specs.Memory.{is_ending, unsaid}
-use Rattle.tl_run.specs.Node.{Doing, Inside, Node}
-use Rattle.tl_run.specs.Says.{says_at}
-use Rattle.tl_run.specs.Strange.{is_strange}
-use Rattle.tl_run.specs.Takes.{MeansDoing}
+use Rattle.tl_journal.specs.Ask.{Ask, StoreCommits, LoadLog, StoreLog, LoadRecord, StoreRecord, Heard}
+use Rattle.tl_journal.specs.Asks.{asks, asks_stripping}
+use Rattle.tl_journal.specs.Bytes.{heard, home_of}
+use Rattle.tl_journal.specs.Memory.{is_ending, unsaid}
+use Rattle.tl_journal.specs.Node.{Doing, Inside, Node}
+use Rattle.tl_journal.specs.Says.{says_at}
+use Rattle.tl_journal.specs.Strange.{is_strange}
+use Rattle.tl_journal.specs.Takes.{MeansDoing}
 use Rattle.tl_protocol.specs.Store.{Key, LogCell}
 use Rattle.tl_ask.specs.Hears.{hears_log, hears_record, hears_store}
 use Rattle.tl_ask.specs.Thin.{thin}

@@ -17,10 +17,10 @@ use Rattle.tl_isolation.specs.Meaning.{QueryAnswers, change_of, told_of}
 use Rattle.tl_isolation.specs.Step.{own_after}
 use Rattle.tl_protocol.specs.Move.{is_empty}
 use Rattle.tl_protocol.specs.World.{Fresh, Opened, Answering, Txn}
-use Rattle.tl_run.specs.Ask.{Heard}
-use Rattle.tl_run.specs.Memory.{unsaid}
-use Rattle.tl_run.specs.Node.{Inside, Node}
-use Rattle.tl_run.specs.Takes.{Means, own_said, view_read}
+use Rattle.tl_journal.specs.Ask.{Heard}
+use Rattle.tl_journal.specs.Memory.{unsaid}
+use Rattle.tl_journal.specs.Node.{Inside, Node}
+use Rattle.tl_journal.specs.Takes.{Means, own_said, view_read}
 use Rattle.tl_write.specs.Change.{number_of}
 use Rattle.tl_txn.specs.Doing.{txn_in}
 use Rattle.tl_txn.specs.declared.phase.Open.{Open}

@@ -15,12 +15,12 @@ use Rattle.tl_isolation.specs.declared.entry.Said.{Said}
 use Rattle.tl_protocol.specs.Move.{is_empty}
 use Rattle.tl_protocol.specs.World.{Fresh}
 use Rattle.tl_protocol.specs.World as protocol
-use Rattle.tl_run.specs.Ask.{Heard, Told}
-use Rattle.tl_run.specs.Asks.{ToBegin, ToIdle, ToRecover, course_outside}
-use Rattle.tl_run.specs.Memory.{has_said}
-use Rattle.tl_run.specs.Node.{Doing, Outside, Stopped, Node, owed_by}
-use Rattle.tl_run.specs.Says.{says_doing, says_outside}
-use Rattle.tl_run.specs.Takes.{takes_doing, takes_outside}
+use Rattle.tl_journal.specs.Ask.{Heard, Told}
+use Rattle.tl_journal.specs.Asks.{ToBegin, ToIdle, ToRecover, course_outside}
+use Rattle.tl_journal.specs.Memory.{has_said}
+use Rattle.tl_journal.specs.Node.{Doing, Outside, Stopped, Node, owed_by}
+use Rattle.tl_journal.specs.Says.{says_doing, says_outside}
+use Rattle.tl_journal.specs.Takes.{takes_doing, takes_outside}
 use Rattle.tl_ask.specs.Hears.{hears_manager}
 use Rattle.tl_recover.specs.Doing as recovery
 use Rattle.tl_recover.specs.Follows.{is_awaiting}

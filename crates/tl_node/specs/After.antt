@@ -19,14 +19,14 @@ use Rattle.tl_isolation.specs.declared.entry.Said.{Said}
 use Rattle.tl_isolation.specs.declared.state.Commit.{Commit}
 use Rattle.tl_protocol.specs.Move.{is_empty}
 use Rattle.tl_protocol.specs.Told.{count_in}
-use Rattle.tl_run.specs.Ask.{Ask, Heard, Strange}
-use Rattle.tl_run.specs.Asks.{asks}
-use Rattle.tl_run.specs.Bytes.{heard}
-use Rattle.tl_run.specs.Memory.{has_said, is_ending, unsaid}
-use Rattle.tl_run.specs.Node.{Doing, Inside, Stopped, Node, owed_by}
-use Rattle.tl_run.specs.Says.{says_at}
-use Rattle.tl_run.specs.Strange.{is_strange}
-use Rattle.tl_run.specs.Takes.{MayMean, takes}
+use Rattle.tl_journal.specs.Ask.{Ask, Heard, Strange}
+use Rattle.tl_journal.specs.Asks.{asks}
+use Rattle.tl_journal.specs.Bytes.{heard}
+use Rattle.tl_journal.specs.Memory.{has_said, is_ending, unsaid}
+use Rattle.tl_journal.specs.Node.{Doing, Inside, Stopped, Node, owed_by}
+use Rattle.tl_journal.specs.Says.{says_at}
+use Rattle.tl_journal.specs.Strange.{is_strange}
+use Rattle.tl_journal.specs.Takes.{MayMean, takes}
 use Rattle.tl_node.specs.Fits.{FitsAll, IsFit, OwnSuitsNode}
 use Rattle.tl_node.specs.Seen.{seen}
 use Rattle.tl_node.specs.View.{NodeValue, StandsFor, asked_by, doing_so, node_so, stage_of, value_of, work_asks}

@@ -12,7 +12,7 @@ use Rattle.tl_manager.specs.declared.mark.Mark.TheVariants as mark
 use Rattle.tl_manager.specs.declared.request.ManagerReply.TheVariants as manager
 use Rattle.tl_manager.specs.declared.request.Reply.{Reply}
 use Rattle.tl_manager.specs.declared.request.Reply.TheVariants as reply
-use Rattle.tl_run.specs.Ask.{Heard, Told}
+use Rattle.tl_journal.specs.Ask.{Heard, Told}
 use Rattle.tl_txn.specs.Taken.{opened}
 use Rattle.tl_txn.specs.declared.phase.Phase.{Phase}
 use Rattle.tl_txn.specs.declared.phase.Phase.TheVariants as phase

@@ -8,8 +8,8 @@ use Rattle.tl_isolation.specs.declared.bound.Bound.TheVariants as bound
 use Rattle.tl_protocol.specs.Move.{is_empty}
 use Rattle.tl_protocol.specs.Next.{end_answer}
 use Rattle.tl_protocol.specs.World as protocol
-use Rattle.tl_run.specs.Asks.{ToBegin, ToIdle, ToCommit, asks_outside, course_in, course_outside, other_manager, asks}
-use Rattle.tl_run.specs.Node.{Doing, Outside, Inside, Reading, Node}
+use Rattle.tl_journal.specs.Asks.{ToBegin, ToIdle, ToCommit, asks_outside, course_in, course_outside, other_manager, asks}
+use Rattle.tl_journal.specs.Node.{Doing, Outside, Inside, Reading, Node}
 use Rattle.tl_write.specs.declared.write.Write.{Write}
 use Rattle.tl_ask.specs.Asked.{asked}
 use Rattle.tl_answer.specs.Own.{OwnSuits}

@@ -2,7 +2,7 @@
 use Rattle.std.specs.Prelude.{Bool, true, false, Option, Some, None}
 use Rattle.tl_descriptor.specs.Tids.{TidSet}
 use Rattle.tl_manager.specs.declared.request.ManagerReply.TheVariants as manager
-use Rattle.tl_run.specs.Ask.{Heard, Told}
+use Rattle.tl_journal.specs.Ask.{Heard, Told}
 use Rattle.tl_node.specs.declared.hears.Claim.{Claim}
 use Rattle.tl_node.specs.declared.hears.Claim.TheVariants as claim
 

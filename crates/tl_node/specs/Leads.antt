@@ -5,8 +5,8 @@ use Rattle.tl_isolation.specs.declared.bound.Bound.{Bound}
 use Rattle.tl_write.specs.declared.write.Write.{Write}
 use Rattle.tl_protocol.specs.Move.{is_empty}
 use Rattle.tl_protocol.specs.World.{Txn}
-use Rattle.tl_run.specs.Asks.{Course, asks_inside, course_in}
-use Rattle.tl_run.specs.Node.{Inside}
+use Rattle.tl_journal.specs.Asks.{Course, asks_inside, course_in}
+use Rattle.tl_journal.specs.Node.{Inside}
 use Rattle.tl_ask.specs.Asked.{asked}
 use Rattle.tl_ask.specs.Thin.{thin}
 use Rattle.tl_txn.specs.Doing.{txn_in}

@@ -7,7 +7,7 @@ use Rattle.tl_descriptor.specs.Tids.{TidSet}
 use Rattle.tl_isolation.specs.declared.entry.Answer.{Answer}
 use Rattle.tl_isolation.specs.declared.entry.Answer.TheVariants as answer
 use Rattle.tl_isolation.specs.declared.entry.Said.{Said}
-use Rattle.tl_run.specs.Bytes.{home_of}
+use Rattle.tl_journal.specs.Bytes.{home_of}
 use Rattle.tl_recover.specs.Heeds.{IsStarted}
 use Rattle.tl_node.specs.After.{Stays}
 use Rattle.tl_node.specs.Fits.{IsOpening}

@@ -5,7 +5,7 @@ use Rattle.tl_write.specs.Change.{number_of}
 use Rattle.tl_isolation.specs.declared.bound.Bound.{Bound}
 use Rattle.tl_isolation.specs.declared.bound.Bound.TheVariants as bound
 use Rattle.tl_plan.specs.Plan.{numbers_of}
-use Rattle.tl_run.specs.Reads.{read_of}
+use Rattle.tl_journal.specs.Reads.{read_of}
 use Rattle.tl_ask.specs.Asked.{asked}
 use Rattle.tl_txn.specs.Calls.{ask_read, reads}
 use Rattle.tl_txn.specs.declared.txn.Txn.{Txn}

@@ -13,13 +13,13 @@ use Rattle.tl_isolation.specs.declared.entry.Answer.{Answer}
 use Rattle.tl_isolation.specs.declared.state.Commit.{Commit}
 use Rattle.tl_plan.specs.Plan.{numbers_of}
 use Rattle.tl_protocol.specs.World.{Txn}
-use Rattle.tl_run.specs.Ask.{Heard, Told}
-use Rattle.tl_run.specs.Asks.{ToIdle, course_in}
-use Rattle.tl_run.specs.Memory.{is_ending}
-use Rattle.tl_run.specs.Node.{Inside, Node}
-use Rattle.tl_run.specs.Reads.{Reads, after_read, all_reads, begin_reads, next_table, read_of, reads_of}
-use Rattle.tl_run.specs.Says.{says_at, says_idle, says_read}
-use Rattle.tl_run.specs.Takes.{MayMean, MeansIdle, MeansRead, goes_on, idles, takes}
+use Rattle.tl_journal.specs.Ask.{Heard, Told}
+use Rattle.tl_journal.specs.Asks.{ToIdle, course_in}
+use Rattle.tl_journal.specs.Memory.{is_ending}
+use Rattle.tl_journal.specs.Node.{Inside, Node}
+use Rattle.tl_journal.specs.Reads.{Reads, after_read, all_reads, begin_reads, next_table, read_of, reads_of}
+use Rattle.tl_journal.specs.Says.{says_at, says_idle, says_read}
+use Rattle.tl_journal.specs.Takes.{MayMean, MeansIdle, MeansRead, goes_on, idles, takes}
 use Rattle.tl_txn.specs.Doing.{txn_in}
 use Rattle.tl_txn.specs.declared.phase.Open.{Open}
 use Rattle.tl_txn.specs.declared.phase.Phase.{Phase}

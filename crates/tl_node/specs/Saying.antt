@@ -12,11 +12,11 @@ use Rattle.tl_isolation.specs.declared.state.Commit.{Commit}
 use Rattle.tl_plan.specs.Plan.{numbers_of}
 use Rattle.tl_protocol.specs.Told.{says_in}
 use Rattle.tl_protocol.specs.World.{Txn}
-use Rattle.tl_run.specs.Ask.{Heard}
-use Rattle.tl_run.specs.Memory.{is_ending}
-use Rattle.tl_run.specs.Node.{Outside, Node}
-use Rattle.tl_run.specs.Says.{says_at}
-use Rattle.tl_run.specs.Takes.{MayMean, Means, first_rows, own_said, said, takes, tables_seen}
+use Rattle.tl_journal.specs.Ask.{Heard}
+use Rattle.tl_journal.specs.Memory.{is_ending}
+use Rattle.tl_journal.specs.Node.{Outside, Node}
+use Rattle.tl_journal.specs.Says.{says_at}
+use Rattle.tl_journal.specs.Takes.{MayMean, Means, first_rows, own_said, said, takes, tables_seen}
 use Rattle.tl_txn.specs.Calls.{own_in, with_own}
 use Rattle.tl_txn.specs.declared.phase.Phase.{Phase}
 use Rattle.tl_txn.specs.declared.txn.Txn.{Txn as TheTxn}

@@ -5,8 +5,8 @@ use Rattle.tl_schema.specs.declared.catalog.Catalog.{Catalog}
 use Rattle.tl_isolation.specs.declared.bound.Bound.{Bound}
 use Rattle.tl_protocol.specs.Move.{is_empty}
 use Rattle.tl_protocol.specs.World.{Txn}
-use Rattle.tl_run.specs.Node.{Doing, Outside, Inside, Reading, Trying, Node}
-use Rattle.tl_run.specs.Asks.{Course, ToRead, ToCommit, course_in}
+use Rattle.tl_journal.specs.Node.{Doing, Outside, Inside, Reading, Trying, Node}
+use Rattle.tl_journal.specs.Asks.{Course, ToRead, ToCommit, course_in}
 use Rattle.tl_ask.specs.Thin.{thin}
 
 -- what a statement comes to is begun as soon as the one before it is answered

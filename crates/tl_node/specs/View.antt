@@ -9,11 +9,11 @@ use Rattle.tl_isolation.specs.declared.bound.Bound.TheVariants as bound
 use Rattle.tl_plan.specs.Plan.{numbers_of}
 use Rattle.tl_protocol.specs.World.{Fresh, Opened, Answering}
 use Rattle.tl_protocol.specs.World as protocol
-use Rattle.tl_run.specs.Asks.{asks}
-use Rattle.tl_run.specs.Ask.{Ask}
-use Rattle.tl_run.specs.Node.{Doing, Outside, Reading, Stopped, Node}
-use Rattle.tl_run.specs.Reads as law
-use Rattle.tl_run.specs.Reads.{Reads, read_of, reads_of}
+use Rattle.tl_journal.specs.Asks.{asks}
+use Rattle.tl_journal.specs.Ask.{Ask}
+use Rattle.tl_journal.specs.Node.{Doing, Outside, Reading, Stopped, Node}
+use Rattle.tl_journal.specs.Reads as law
+use Rattle.tl_journal.specs.Reads.{Reads, read_of, reads_of}
 use Rattle.tl_ask.specs.Asked.{asked}
 use Rattle.tl_ask.specs.declared.asked.Asked.{Asked}
 use Rattle.tl_txn.specs.Doing.{doing_of, txn_in}

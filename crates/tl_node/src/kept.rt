@@ -5,8 +5,8 @@ ghost use Rattle.std.specs.Prelude.{vec_capacity, vec_len};
 ghost use Rattle.std.specs.Option.{option_copied};
 ghost use Rattle.tl_manager.specs.declared.request.ManagerRequest.TheVariants as request;
 ghost use Rattle.tl_ask.specs.Asked.{asked};
-ghost use Rattle.tl_run.specs.Ask.{AskManager};
-ghost use Rattle.tl_run.specs.Bytes.{home_of};
+ghost use Rattle.tl_journal.specs.Ask.{AskManager};
+ghost use Rattle.tl_journal.specs.Bytes.{home_of};
 
 use std::alloc::Global;
 use tl_answer::copy_answer;

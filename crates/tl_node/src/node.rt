@@ -4,7 +4,7 @@ ghost use Rattle.std.specs.Prelude.{◌≡◌, ◌≤◌, IfOk, MatchOption, Non
 ghost use Rattle.std.specs.Option.{option_copied};
 ghost use Rattle.tl_manager.specs.declared.request.ManagerRequest.TheVariants as asked_of;
 ghost use Rattle.tl_protocol.specs.Move.{is_empty};
-ghost use Rattle.tl_run.specs.Node.{opening_node, owed_by};
+ghost use Rattle.tl_journal.specs.Node.{opening_node, owed_by};
 ghost use Rattle.tl_node.specs.After.{IsAfter, IsTold, Stays};
 ghost use Rattle.tl_node.specs.Fits.{IsFit};
 ghost use Rattle.tl_ask.specs.Hears.{hears_manager};

@@ -10,8 +10,8 @@ use Rattle.tl_write.specs.Tables.{Tables}
 use Rattle.tl_isolation.specs.Tables.{opening_writes}
 use Rattle.tl_isolation.specs.declared.script.Script.{Script}
 use Rattle.tl_isolation.specs.Script.{setup_of}
-use Rattle.tl_run.specs.Journal.{AreServed, IsCall, opening_calls, opening_cells}
-use Rattle.tl_run.specs.declared.event.Event.{Event}
+use Rattle.tl_journal.specs.Journal.{AreServed, IsCall, opening_calls, opening_cells}
+use Rattle.tl_journal.specs.declared.event.Event.{Event}
 use Rattle.tl_places.specs.Opening.{AreNew, HaveStored, Stored, commits_cell, row_cell, row_writes}
 use Rattle.tl_places.specs.Places.{AreAt, PlacesState, ShardHasServed}
 use Rattle.tl_places.proofs.Lists.{is_there}

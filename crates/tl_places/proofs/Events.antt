@@ -23,9 +23,9 @@ use Rattle.tl_manager.specs.State.{ManagerState}
 use Rattle.tl_isolation.specs.declared.entry.Entry.{Entry}
 use Rattle.tl_isolation.specs.declared.script.Script.{Script}
 use Rattle.tl_isolation.specs.Script.{setup_of}
-use Rattle.tl_run.specs.declared.event.Event.{Event}
-use Rattle.tl_run.specs.Journal.{manager_log, shard_log}
-use Rattle.tl_run.proofs.Logs.{manager_more, shard_more}
+use Rattle.tl_journal.specs.declared.event.Event.{Event}
+use Rattle.tl_journal.specs.Journal.{manager_log, shard_log}
+use Rattle.tl_journal.proofs.Logs.{manager_more, shard_more}
 use Rattle.tl_places.specs.Places.{AreAt, HaveServed, ManagerHasServed, PlacesState, ShardHasServed}
 use Rattle.tl_places.proofs.Lists.{apart, set_found}
 

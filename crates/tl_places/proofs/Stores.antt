@@ -12,7 +12,7 @@ use Rattle.tl_cells.specs.Cells.{ShardState, cell_under, greatest, next_of, repl
 use Rattle.tl_cells.specs.Place.{shard_of_key}
 use Rattle.tl_cells.specs.Serves.{Call, Matches, stores}
 use Rattle.tl_cells.proofs.Log.{after-reply_of, reply_of-log, ServesAll-push}
-use Rattle.tl_run.specs.Journal.{stores_from}
+use Rattle.tl_journal.specs.Journal.{stores_from}
 use Rattle.tl_places.specs.Opening.{HaveStored, Stored, stores_at}
 use Rattle.tl_places.specs.Places.{ShardHasServed}
 use Rattle.tl_places.proofs.Lists.{apart, length-append_one, push_found, set_found}

@@ -14,8 +14,8 @@ use Rattle.tl_versions.specs.Cell as cells
 use Rattle.tl_write.specs.declared.write.Write.{Write}
 use Rattle.tl_write.specs.Tables.{Tables}
 use Rattle.tl_isolation.specs.Tables.{table_of}
-use Rattle.tl_run.specs.Bytes.{commits_key}
-use Rattle.tl_run.specs.Journal.{stores_from}
+use Rattle.tl_journal.specs.Bytes.{commits_key}
+use Rattle.tl_journal.specs.Journal.{stores_from}
 use Rattle.tl_places.specs.Places.{ManagerHasServed, ShardHasServed}
 
 -- the key and the bytes of a cell

@@ -11,8 +11,8 @@ use Rattle.tl_manager.specs.declared.request.Reply.{Reply}
 use Rattle.tl_isolation.specs.declared.entry.Entry.{Entry}
 use Rattle.tl_isolation.specs.declared.script.Script.{Script}
 use Rattle.tl_isolation.specs.Script.{setup_of}
-use Rattle.tl_run.specs.declared.event.Event.{Event}
-use Rattle.tl_run.specs.Journal.{manager_log, shard_log}
+use Rattle.tl_journal.specs.declared.event.Event.{Event}
+use Rattle.tl_journal.specs.Journal.{manager_log, shard_log}
 
 pub record PlacesState : Type 0 where
   pub shards : List ShardState

@@ -3,7 +3,7 @@
 ghost use Rattle.std.specs.Prelude.{◌≡◌, ◌∷◌, ◌++◌, List, [], length, map, IfOk, OnOk};
 ghost use Rattle.std.specs.FinMap as finmap;
 ghost use Rattle.tl_isolation.specs.Script.{setup_of};
-ghost use Rattle.tl_run.specs.Journal.{opening_cells, stores_from};
+ghost use Rattle.tl_journal.specs.Journal.{opening_cells, stores_from};
 ghost use Rattle.tl_places.specs.Opening.{HaveStored, Stored, commits_cell, row_cell};
 ghost use Rattle.tl_places.specs.Places.{ShardHasServed};
 

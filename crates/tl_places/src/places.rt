@@ -5,7 +5,7 @@ ghost use Rattle.tl_manager.specs.declared.request.ManagerReply.TheVariants as t
 ghost use Rattle.tl_manager.specs.declared.request.Reply.TheVariants as answered;
 ghost use Rattle.tl_manager.specs.declared.request.Request.TheVariants as asked;
 ghost use Rattle.tl_base.specs.declared.place.PlaceId.TheVariants as place_of;
-ghost use Rattle.tl_run.specs.Journal.{IsCall, is_post};
+ghost use Rattle.tl_journal.specs.Journal.{IsCall, is_post};
 ghost use Rattle.tl_places.specs.Opening.{AreNew};
 ghost use Rattle.tl_places.specs.Places.{AreAt, HaveServed};
 

@@ -50,7 +50,7 @@ grows_finish b cc stamp set e above = record {
 }
 
 -- the number of a transaction is small enough for a set
-small_begun : (numbers : ℕ → Number) (counter i t : ℕ) → NumbersOk numbers counter → numbers t ≡ Begun i → t ≤ 2 ^ 62
+pub small_begun : (numbers : ℕ → Number) (counter i t : ℕ) → NumbersOk numbers counter → numbers t ≡ Begun i → t ≤ 2 ^ 62
 small_begun numbers counter i t n b =
     let s = n.small in
     ⊎_elim

@@ -19,7 +19,7 @@ use Rattle.tl_isolation.specs.declared.state.SiState.{SiState}
 use Rattle.tl_isolation.specs.State.{is_lost}
 use Rattle.tl_isolation.specs.Step.{may_undo}
 use Rattle.tl_protocol.specs.Store.{Key, Cell, LogCell, CommitsCell, written}
-use Rattle.tl_protocol.specs.World.{Number, Undrawn, Carried, Ready, Begun, Opening, Stage, Fresh, Opened, Answering, Txn, Fact, Attempt, Loaded, Decision, Commit as ToCommit, Undo, Phase, Idle, Noted, Drawn, Live, Trying, Undoing, Closing, Ending, Duties, Orphan, Recovery, NoDuty, Next, Reading, Stripping, Finishing, Closed, World}
+use Rattle.tl_protocol.specs.World.{Number, Undrawn, Carried, Ready, Begun, Opening, Stage, Fresh, Opened, Answering, Txn, Fact, Holds, Attempt, Loaded, Decision, Commit as ToCommit, Undo, Phase, Idle, Noted, Drawn, Live, Trying, Undoing, Closing, Ending, Duties, Orphan, Recovery, NoDuty, Next, Reading, Stripping, Finishing, Closed, World}
 use Rattle.tl_protocol.specs.Move.{Move, is_empty}
 use Rattle.tl_protocol.specs.Next.{is_drawn, log_cell, next, owed, unanswered}
 use Rattle.tl_protocol.specs.Stands.{Mender, Notice, Duty, finishes, posted}
@@ -127,7 +127,7 @@ own_stored t k = is_written k t.own
 
 -- what was read is what the first commits left
 abbrev pub FactOk : ℕ → List Commit → Fact → Type 0
-FactOk first cs fact = (k : Key) → fact.looked k ≡ true → fact.rows k ≡ view first k cs
+FactOk first cs fact = Holds (λ k. view first k cs) fact
 
 pub record IdleOk (s : Shared) (i : ℕ) (seat : Seat) : Type 0 where
   pub free : FreeOk s.fronts i seat.held

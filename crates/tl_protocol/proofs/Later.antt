@@ -1,11 +1,12 @@
 -- What one node's move leaves of the facts of another.
 use Rattle.std.proofs.Common.{◌≡◌, ℕ, ◌≤◌, Bool, true, false, List, [], ◌∷◌, length, Option, Some, None, refl, sym, ap, ◌∙◌, subst, inl, inr, ⊎_elim, arith}
 use Rattle.std.specs.List.{AllByRecursion}
+use Rattle.tl_values.specs.declared.value.Value.{Value}
 use Rattle.tl_descriptor.specs.Tids.{TidSet}
 use Rattle.tl_isolation.specs.declared.state.Transaction.{Transaction}
 use Rattle.tl_isolation.specs.declared.state.TxnPhase.{TxnPhase}
 use Rattle.tl_protocol.specs.Store.{Key, Cell, CommitsCell}
-use Rattle.tl_protocol.specs.World.{Carried, Begun, Txn, Fact, Attempt, Loaded, Commit as ToCommit, Undo, Phase, Idle, Noted, Drawn, Live, Trying, Undoing, Closing, Ending, Duties, Recovery, NoDuty, Next, Reading, Stripping, Finishing, Closed}
+use Rattle.tl_protocol.specs.World.{Carried, Begun, Txn, Fact, Rows, Covers, Holds, Attempt, Loaded, Commit as ToCommit, Undo, Phase, Idle, Noted, Drawn, Live, Trying, Undoing, Closing, Ending, Duties, Recovery, NoDuty, Next, Reading, Stripping, Finishing, Closed}
 use Rattle.tl_protocol.specs.Next.{owed}
 use Rattle.tl_protocol.proofs.Ledger.{Seat, view}
 use Rattle.tl_protocol.proofs.Finished.{Known, commits_of, firsts, is_done}
@@ -79,10 +80,15 @@ txn_later i s z c t stored h p b r o = record {
   only = λ k f e m. o.only k f (c.no_more k f m e) m;
 }
 
+-- a fact is true of all that has the same rows
+pub holds_same : (f g : Key → Option (List Value)) → ((k : Key) → g k ≡ f k) → (fact : Fact) → Holds f fact → Holds g fact
+holds_same f g e (Rows looked rows) h = λ k l. e k ∙ h k l
+holds_same f g e (Covers covers looked) h = λ k row at. h k row (sym (e k) ∙ at)
+
 fact_later : (i : ℕ) (s z : Shared) → Later i s z → (first : ℕ) → first ≤ length (commits_of s.finished) → (facts : List Fact)
     → AllByRecursion (FactOk first (commits_of s.finished)) facts → AllByRecursion (FactOk first (commits_of z.finished)) facts
 fact_later i s z c first l [] h = tt
-fact_later i s z c first l (f ∷ fs) h = ((λ k e. h.0 k e ∙ sym (c.views first k l)), fact_later i s z c first l fs h.1)
+fact_later i s z c first l (f ∷ fs) h = (holds_same _ _ (λ k. c.views first k l) f h.0, fact_later i s z c first l fs h.1)
 
 -- a transaction sees no more commits than there are
 pub first_within : (s : Shared) (i : ℕ) (t : Txn) (stored : Key → Bool) (h : Option Transaction) (p : TxnPhase) (b : Bool) (r : Option ℕ)

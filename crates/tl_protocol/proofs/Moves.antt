@@ -5,7 +5,7 @@ use Rattle.tl_protocol.specs.Move.{Move}
 use Rattle.tl_protocol.proofs.Ledger.{Ledger}
 use Rattle.tl_protocol.proofs.Inv.{Ghost, Inv, Kept}
 use Rattle.tl_protocol.proofs.Beginning.{ask_kept, begin_kept, bring_kept, draw_kept, end_kept, learn_kept}
-use Rattle.tl_protocol.proofs.Statements.{give_up_kept, look_kept, say_begun_kept, say_change_kept, say_nested_kept, say_outside_kept, say_select_kept, there_kept, try_kept, try_nothing_kept}
+use Rattle.tl_protocol.proofs.Statements.{cover_kept, give_up_kept, look_kept, say_begun_kept, say_change_kept, say_nested_kept, say_outside_kept, say_select_kept, there_kept, try_kept, try_nothing_kept}
 use Rattle.tl_protocol.proofs.Attempts.{clash_kept, decide_kept, load_commits_kept, load_own_kept, load_undo_kept, mark_undone_kept, moved_commits_kept, moved_own_kept, moved_undo_kept}
 use Rattle.tl_protocol.proofs.Stores.{store_own_kept, store_undo_kept}
 use Rattle.tl_protocol.proofs.Finishing.{store_commits_kept}
@@ -20,6 +20,7 @@ module _ (w : World) (a : Ledger) (g : Ghost) (v : Inv w a g) where
   move_kept (move.Begin n tid seen floor at ready low) = begin_kept w a g v n tid seen floor at ready low
   move_kept (move.Learn n manager seen floor r told low) = learn_kept w a g v n manager seen floor r told low
   move_kept (move.Look n t facts looked at) = look_kept w a g v n t facts looked at
+  move_kept (move.Cover n t facts covers looked at right) = cover_kept w a g v n t facts covers looked at right
   move_kept (move.SayBegun n statement t facts at fresh) = say_begun_kept w a g v n statement t facts at fresh
   move_kept (move.SayNested n statement b t facts at opened nested) = say_nested_kept w a g v n statement b t facts at opened nested
   move_kept (move.SayOutside n statement b at outside) = say_outside_kept w a g v n statement b at outside

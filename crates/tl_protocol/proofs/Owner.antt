@@ -13,7 +13,7 @@ use Rattle.tl_write.specs.Own.{is_written}
 use Rattle.tl_isolation.specs.declared.state.Commit.{Commit}
 use Rattle.tl_isolation.specs.declared.state.Transaction.{Transaction}
 use Rattle.tl_isolation.specs.declared.state.TxnPhase.{TxnPhase}
-use Rattle.tl_protocol.specs.Store.{Key, LogCell, row_shown, same_key}
+use Rattle.tl_protocol.specs.Store.{Key, LogCell, row_shown, same_key, written}
 use Rattle.tl_protocol.specs.World.{Number, Begun, Txn, Commit as ToCommit, Undo, Phase, Idle, Noted, Drawn, Live, Trying, Undoing, Closing, Ending}
 use Rattle.tl_protocol.specs.Move.{is_empty, is_named}
 use Rattle.tl_protocol.specs.Next.{log_cell}
@@ -39,6 +39,7 @@ pub record Owner (numbers : ℕ → Number) (ds : List Finished) (k : Key) (f : 
   pub tid : t.tid ≡ f.tid
   pub tried : t.tried ≡ true
   pub writes : is_written k t.own ≡ true
+  pub row : written k t.own ≡ Some f.row
   pub named : Names k log
 
 no_writes : (k : Key) (ws : List Write) → is_empty ws ≡ true → is_written k ws ≡ true → ⊥
@@ -68,6 +69,7 @@ owner_txn s i t stored held p rival o n k f e m =
       tid = r;
       tried = refl;
       writes = w;
+      row = q.1 ∙ ap (λ (y : Front). Some y.row) (sym x);
       named = subst (λ y. Names k (s.logs y)) r (n k w);
     }
 

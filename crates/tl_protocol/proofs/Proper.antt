@@ -198,6 +198,7 @@ told_suits commits w (move.Bring n seen low at) = tt
 told_suits commits w (move.Begin n tid seen floor at number low) = (tt, tt)
 told_suits commits w (move.Learn n manager seen floor r seen_so low) = tt
 told_suits commits w (move.Look n t facts looked at) = tt
+told_suits commits w (move.Cover n t facts covers looked at right) = tt
 told_suits commits w (move.SayBegun n statement t facts at fresh) = (tt, tt)
 told_suits commits w (move.SayNested n statement b t facts at opened nested) = (nested_suits w.catalog b nested, tt)
 told_suits commits w (move.SayOutside n statement b at outside) = (outside_suits w.catalog b outside, tt)

@@ -3,6 +3,7 @@ use Rattle.std.proofs.Common.{◌≡◌, ℕ, ◌<◌, Bool, true, false, List, 
 use Rattle.std.specs.Prelude.{if◌then◌else◌}
 use Rattle.std.specs.FinMap as finmap
 use Rattle.std.specs.List.{AllByRecursion}
+use Rattle.tl_values.specs.declared.value.Value.{Value}
 use Rattle.tl_algebra.specs.declared.edit.Edit.{Edit}
 use Rattle.tl_algebra.specs.declared.query.Query.{Query}
 use Rattle.tl_logrec.specs.declared.entry.Flag.TheVariants as flag
@@ -21,9 +22,9 @@ use Rattle.tl_isolation.specs.Meaning.{SelectAnswers}
 use Rattle.tl_isolation.specs.State.{is_fresh, is_open}
 use Rattle.tl_isolation.specs.Step.{keep_answer, may_try, may_undo, takes_statement}
 use Rattle.tl_isolation.specs.Tables.{AreHome, Suits}
-use Rattle.tl_protocol.specs.Store.{Key, CommitsCell, LogCell, log_stamp, put}
-use Rattle.tl_protocol.specs.World.{Stage, Fresh, Opened, Answering, Txn, Fact, Attempt, Commit as ToCommit, Undo, Phase, Idle, Live, Trying, Closing, NoDuty, World, At, Agrees}
-use Rattle.tl_protocol.specs.Move.{Changes, Look, SayBegun, SayNested, SayOutside, SaySelect, SayChange, There, Try, TryNothing, GiveUp, is_empty, is_nested, is_outside, may_commit, may_give_up, takes_statements}
+use Rattle.tl_protocol.specs.Store.{Key, CommitsCell, LogCell, log_stamp, put, row_shown}
+use Rattle.tl_protocol.specs.World.{Stage, Fresh, Opened, Answering, Txn, Fact, Covers, Holds, Attempt, Commit as ToCommit, Undo, Phase, Idle, Live, Trying, Closing, NoDuty, World, At, Agrees}
+use Rattle.tl_protocol.specs.Move.{Changes, Look, Cover, SayBegun, SayNested, SayOutside, SaySelect, SayChange, There, Try, TryNothing, GiveUp, is_empty, is_nested, is_outside, may_commit, may_give_up, takes_statements}
 use Rattle.tl_protocol.specs.Next.{after_saying, fact_of, log_cell}
 use Rattle.tl_protocol.specs.Told.{is_answered, says, says_in}
 use Rattle.tl_protocol.proofs.Ledger.{Ledger, Seat, seated, view}
@@ -31,7 +32,7 @@ use Rattle.tl_protocol.proofs.Shown.{Tells}
 use Rattle.tl_protocol.proofs.Finished.{commits_of}
 use Rattle.tl_protocol.proofs.Showing.{said_begun, said_change, said_nested, said_outside, said_select, said_there, tried}
 use Rattle.tl_protocol.proofs.Inv.{Base, Blank, NoLog, CommitLog, Nothing, Core, FactOk, Ghost, IdleOk, Inv, Kept, LiveOk, NodeOk, SeenOk, Shared, TxnOk, base, held_txn, nodes_of, nowhere, own_stored, shared, unless_lost, vanished_of}
-use Rattle.tl_protocol.proofs.Later.{grows_refl}
+use Rattle.tl_protocol.proofs.Later.{grows_refl, holds_same}
 use Rattle.tl_protocol.proofs.Frames.{link_own, link_same, put_one, put_same}
 use Rattle.tl_protocol.proofs.Owner.{txn_sees}
 use Rattle.tl_protocol.proofs.Steps.{active_at, core_log_seat, core_seat, core_turn, node_at, not_vanished, numbered, seated_vanished, with_phase}
@@ -92,7 +93,7 @@ give_up_so n first t (Answering told) e = e
 agrees : (first : ℕ) (cs : List Commit) (tables : Tables) → ((k : Key) → finmap.get tables k ≡ view first k cs) → (facts : List Fact)
     → AllByRecursion (FactOk first cs) facts → Agrees tables facts
 agrees first cs tables h [] r = tt
-agrees first cs tables h (f ∷ fs) r = ((λ k e. h k ∙ sym (r.0 k e)), agrees first cs tables h fs r.1)
+agrees first cs tables h (f ∷ fs) r = (holds_same _ _ h f r.0, agrees first cs tables h fs r.1)
 
 -- the transaction goes on, held as it now is
 txn_so : (s : Shared) (logs : ℕ → Option LogCell) (i : ℕ) (t : Txn) (held now : Option Transaction) (p q : TxnPhase) (tried : Bool) (own : List Write) (stage : Stage)
@@ -166,30 +167,50 @@ module _ (w : World) (a : Ledger) (g : Ghost) (v : Inv w a g) where
       record { txn = l.txn; log = l.log; reads = l.reads } in
       subst (λ b. LiveNow (shared (base w) g) n t facts (a.seats n).held (unless_lost b phase.Live)) (not_vanished w a g v n at.runs) here
 
-  pub look_kept : (n : ℕ) (t : Txn) (facts : List Fact) (looked : Key → Bool) (at : At w n (Live t facts)) → Kept w a g (Look n t facts looked at)
-  look_kept n t facts looked at =
-      let l : LiveOk (shared (base w) g) n t facts (a.seats n) = node_at w a g v n (Live t facts) at in
-      let p : Phase = Live t (fact_of w t.snapshot looked ∷ facts) in
+  pub live_ok : (n : ℕ) (t : Txn) (facts : List Fact) → At w n (Live t facts) → LiveOk (shared (base w) g) n t facts (a.seats n)
+  live_ok n t facts at = node_at w a g v n (Live t facts) at
+
+  -- its snapshot shows what its first commits left
+  pub sees_at : (n : ℕ) (t : Txn) (facts : List Fact) (at : At w n (Live t facts)) (k : Key)
+      → row_shown t.snapshot (w.cells k).versions ≡ view (live_ok n t facts at).txn.first k (commits_of g.finished)
+  sees_at n t facts at k =
+      let l = live_ok n t facts at in
+      txn_sees (base w) a g v.core n t nowhere (a.seats n).held (unless_lost (a.seats n).vanished phase.Live) false None l.txn (active_at w a g v n (Live t facts) at) k
+      ∙ ap (view l.txn.first k) v.core.commits
+
+  -- one fact more
+  know_kept : (n : ℕ) (t : Txn) (facts : List Fact) (at : At w n (Live t facts)) (fact : Fact)
+      → FactOk (live_ok n t facts at).txn.first (commits_of g.finished) fact
+      → Inv (record w { phases = put n (Live t (fact ∷ facts)) w.phases }) a (with_phase g n (Live t (fact ∷ facts)))
+  know_kept n t facts at fact h =
+      let l = live_ok n t facts at in
+      let p : Phase = Live t (fact ∷ facts) in
       let active = active_at w a g v n (Live t facts) at in
       record {
-        ledger = a;
-        ghost = with_phase g n p;
-        inv = record {
-          core = core_turn (base w) a g v.core n p (record {
-            txn = l.txn;
-            log = l.log;
-            reads = (
-              (λ k e. txn_sees (base w) a g v.core n t nowhere (a.seats n).held (unless_lost (a.seats n).vanished phase.Live) false None l.txn active k
-                  ∙ ap (view l.txn.first k) v.core.commits),
-              l.reads,
-            );
-          }) active;
-          link = link_own (base w) (base w) (nodes_of w) (vanished_of a) (vanished_of a) g.phases g.menders n p (grows_refl w.cells w.commits) at.runs (λ i. refl) v.link;
-        };
-        tells = λ s h proper. record { allowed = tt; shows = h };
-        ended = λ s q. refl;
-        catalog = refl;
+        core = core_turn (base w) a g v.core n p (record { txn = l.txn; log = l.log; reads = (h, l.reads) }) active;
+        link = link_own (base w) (base w) (nodes_of w) (vanished_of a) (vanished_of a) g.phases g.menders n p (grows_refl w.cells w.commits) at.runs (λ i. refl) v.link;
       }
+
+  pub cover_kept : (n : ℕ) (t : Txn) (facts : List Fact) (covers : Key → List Value → Bool) (looked : Key → Bool) (at : At w n (Live t facts))
+      (right : Holds (λ k. row_shown t.snapshot (w.cells k).versions) (Covers covers looked)) → Kept w a g (Cover n t facts covers looked at right)
+  cover_kept n t facts covers looked at right = record {
+    ledger = a;
+    ghost = with_phase g n (Live t (Covers covers looked ∷ facts));
+    inv = know_kept n t facts at (Covers covers looked) (λ k row e. right k row (sees_at n t facts at k ∙ e));
+    tells = λ s h proper. record { allowed = tt; shows = h };
+    ended = λ s q. refl;
+    catalog = refl;
+  }
+
+  pub look_kept : (n : ℕ) (t : Txn) (facts : List Fact) (looked : Key → Bool) (at : At w n (Live t facts)) → Kept w a g (Look n t facts looked at)
+  look_kept n t facts looked at = record {
+    ledger = a;
+    ghost = with_phase g n (Live t (fact_of w t.snapshot looked ∷ facts));
+    inv = know_kept n t facts at (fact_of w t.snapshot looked) (λ k e. sym (sees_at n t facts at k));
+    tells = λ s h proper. record { allowed = tt; shows = h };
+    ended = λ s q. refl;
+    catalog = refl;
+  }
 
   -- the node's transaction, live in another stage, with another note
   restaged : (n : ℕ) (t : Txn) (facts : List Fact) (at : At w n (Live t facts)) (own : List Write) (stage : Stage) (note : Option ℕ)

@@ -3,6 +3,7 @@
 use Rattle.std.specs.Prelude.{◌≡◌, ◌<◌, ◌≤◌, ◌⊎◌, ℕ, ◌+◌, ◌^◌, ◌==◌, Bool, true, false, not, List, [], ◌∷◌, Option, Some, None, slice_get}
 use Rattle.std.specs.List.{list_all, list_any}
 use Rattle.tl_schema.specs.declared.catalog.Catalog.{Catalog}
+use Rattle.tl_values.specs.declared.value.Value.{Value}
 use Rattle.tl_descriptor.specs.Tids.{TidSet}
 use Rattle.tl_manager.specs.declared.active.Active.{Active}
 use Rattle.tl_manager.specs.Floor.{newer}
@@ -21,8 +22,8 @@ use Rattle.tl_isolation.specs.Meaning.{SelectAnswers, change_of, told_of}
 use Rattle.tl_isolation.specs.State.{is_refusal}
 use Rattle.tl_isolation.specs.Step.{own_after}
 use Rattle.tl_isolation.specs.Tables.{AreHome, Suits}
-use Rattle.tl_protocol.specs.Store.{Key, LogCell, CommitsCell, same_key, log_stamp}
-use Rattle.tl_protocol.specs.World.{Ready, Stage, Fresh, Opened, Answering, Txn, Fact, Attempt, Loaded, Decision, Idle, Noted, Drawn, Live, Trying, Undoing, Closing, Ending as IsEnding, Duties, Orphan, NoDuty, Next, Reading, Stripping, Finishing, Closed, World, runs, At, Recovers, Agrees, IsFloor, IsLeast}
+use Rattle.tl_protocol.specs.Store.{Key, LogCell, CommitsCell, row_shown, same_key, log_stamp}
+use Rattle.tl_protocol.specs.World.{Ready, Stage, Fresh, Opened, Answering, Txn, Fact, Covers, Attempt, Loaded, Decision, Idle, Noted, Drawn, Live, Trying, Undoing, Closing, Ending as IsEnding, Duties, Orphan, NoDuty, Next, Reading, Stripping, Finishing, Closed, World, runs, At, Recovers, Agrees, Holds, IsFloor, IsLeast}
 
 abbrev pub is_empty : {A : Type 0} → List A → Bool
 is_empty [] = true
@@ -96,6 +97,9 @@ pub data Move (w : World) : Type 0 where
       → IsFloor w manager (newer (w.copies manager) seen) floor → Move w
   -- Statements. A record cell, or the record cells of a range, are loaded
   Look : (n : ℕ) (t : Txn) (facts : List Fact) (looked : Key → Bool) → At w n (Live t facts) → Move w
+  -- it is known that each row of the snapshot that is covered stands at one of these keys
+  Cover : (n : ℕ) (t : Txn) (facts : List Fact) (covers : Key → List Value → Bool) (looked : Key → Bool) → At w n (Live t facts)
+      → Holds (λ k. row_shown t.snapshot (w.cells k).versions) (Covers covers looked) → Move w
   SayBegun : (n statement : ℕ) (t : Txn) (facts : List Fact) → At w n (Live t facts) → t.stage ≡ Fresh → Move w
   SayNested : (n statement : ℕ) (b : Bound) (t : Txn) (facts : List Fact) → At w n (Live t facts) → t.stage ≡ Opened
       → is_nested b ≡ true → Move w

@@ -11,7 +11,7 @@ use Rattle.tl_write.specs.declared.write.Write.{Write}
 use Rattle.tl_isolation.specs.declared.entry.Answer.{Answer}
 use Rattle.tl_isolation.specs.Step.{commit_answer, undo_answer}
 use Rattle.tl_protocol.specs.Store.{Key, LogCell, put, put_at, row_shown, written}
-use Rattle.tl_protocol.specs.World.{Number, Carried, Ready, Begun, Stage, Fresh, Opened, Answering, Txn, Fact, Loaded, Decision, Commit, Undo, Phase, Idle, Noted, Drawn, Live, Trying, Undoing, Closing, Ending, Duties, Orphan, Recovery, NoDuty, Next, Reading, Stripping, Finishing, Closed, World}
+use Rattle.tl_protocol.specs.World.{Number, Carried, Ready, Begun, Stage, Fresh, Opened, Answering, Txn, Fact, Rows, Covers, Loaded, Decision, Commit, Undo, Phase, Idle, Noted, Drawn, Live, Trying, Undoing, Closing, Ending, Duties, Orphan, Recovery, NoDuty, Next, Reading, Stripping, Finishing, Closed, World}
 use Rattle.tl_protocol.specs.Move as move
 use Rattle.tl_protocol.specs.Move.{Move}
 
@@ -45,7 +45,7 @@ end_answer stage (Undo rival) = undo_answer rival (unanswered stage)
 
 -- what was read: at these keys the rows that the snapshot shows
 abbrev pub fact_of : World → TidSet → (Key → Bool) → Fact
-fact_of w snapshot looked = record { looked = looked; rows = λ k. row_shown snapshot (w.cells k).versions }
+fact_of w snapshot looked = Rows looked (λ k. row_shown snapshot (w.cells k).versions)
 
 abbrev pub loaded : World → Key → Loaded
 loaded w k = record { key = k; stamp = (w.cells k).stamp; versions = (w.cells k).versions }
@@ -138,6 +138,7 @@ next w (move.Begin n tid seen floor at number low) =
     }
 next w (move.Learn n manager seen floor r told low) = with_floor w n manager (newer (w.copies manager) seen) floor
 next w (move.Look n t facts looked at) = with_phase w n (Live t (fact_of w t.snapshot looked ∷ facts))
+next w (move.Cover n t facts covers looked at right) = with_phase w n (Live t (Covers covers looked ∷ facts))
 next w (move.SayBegun n statement t facts at fresh) = with_phase w n (Live (record t { stage = Opened }) [])
 next w (move.SayNested n statement b t facts at opened nested) = w
 next w (move.SayOutside n statement b at outside) = w

@@ -38,10 +38,12 @@ pub record Txn : Type 0 where
   pub own : List Write
   pub stage : Stage
 
--- a read that was made: at these keys the snapshot has these rows
-pub record Fact : Type 0 where
-  pub looked : Key → Bool
-  pub rows : Key → Option (List Value)
+-- a read that was made
+pub data Fact : Type 0 where
+  -- at these keys the snapshot has these rows
+  Rows : (Key → Bool) → (Key → Option (List Value)) → Fact
+  -- each of its rows that is covered stands at one of these keys
+  Covers : (Key → List Value → Bool) → (Key → Bool) → Fact
 
 -- a transaction that stores its writes: the stamp of its log cell, and the records in which its version stands
 pub record Attempt : Type 0 where
@@ -138,9 +140,14 @@ pub record Recovers (w : World) (n : ℕ) (recovery : Recovery) : Type 0 where
   pub runs : runs w n ≡ true
   pub so_far : w.recoveries n ≡ recovery
 
--- the tables have the rows that were read
+-- the fact is true of a table whose row at each key is this one
+abbrev pub Holds : (Key → Option (List Value)) → Fact → Type 0
+Holds row_at (Rows looked rows) = (k : Key) → looked k ≡ true → row_at k ≡ rows k
+Holds row_at (Covers covers looked) = (k : Key) (row : List Value) → row_at k ≡ Some row → covers k row ≡ true → looked k ≡ true
+
+-- what was read is true of the tables
 abbrev pub Agrees : Tables → List Fact → Type 0
-Agrees tables facts = AllByRecursion (λ (fact : Fact). (k : Key) → fact.looked k ≡ true → finmap.get tables k ≡ fact.rows k) facts
+Agrees tables facts = AllByRecursion (Holds (finmap.get tables)) facts
 
 -- the low-water mark of a manager with this copy: of the copy and the active snapshots the one that begins them all
 pub record IsFloor (w : World) (manager : ℕ) (copy floor : TidSet) : Type 0 where

@@ -13,13 +13,13 @@ use Rattle.tl_versions.specs.Versions.{is_written, strip}
 use Rattle.tl_isolation.specs.declared.entry.Entry.{Entry}
 use Rattle.tl_protocol.specs.Store.{Key, Cell, LogCell}
 use Rattle.tl_protocol.specs.Told.{finished_so}
-use Rattle.tl_run.specs.Ask.{StoreCommits, StoreRecord, Heard, Commits, Log, Record, Stored, Moved, Told}
-use Rattle.tl_run.specs.Asks.{asks_stripping}
-use Rattle.tl_run.specs.Node.{Claimed, Doing, Recovering, ReadingLog, Stripping, Finishing, EndingLost, Node}
-use Rattle.tl_run.specs.Says.{says_doing, says_recovered}
-use Rattle.tl_run.specs.Strange.{is_odd_for, is_stopped}
-use Rattle.tl_run.specs.Takes as law
-use Rattle.tl_run.specs.Takes.{takes_doing, with_doing}
+use Rattle.tl_journal.specs.Ask.{StoreCommits, StoreRecord, Heard, Commits, Log, Record, Stored, Moved, Told}
+use Rattle.tl_journal.specs.Asks.{asks_stripping}
+use Rattle.tl_journal.specs.Node.{Claimed, Doing, Recovering, ReadingLog, Stripping, Finishing, EndingLost, Node}
+use Rattle.tl_journal.specs.Says.{says_doing, says_recovered}
+use Rattle.tl_journal.specs.Strange.{is_odd_for, is_stopped}
+use Rattle.tl_journal.specs.Takes as law
+use Rattle.tl_journal.specs.Takes.{takes_doing, with_doing}
 use Rattle.tl_ask.specs.Thin.{loaded_if}
 use Rattle.tl_recover.specs.declared.phase.Lost.{Lost}
 use Rattle.tl_recover.specs.declared.phase.Phase.{Phase}

@@ -6,7 +6,7 @@ use Rattle.std.proofs.lemmas.Bool.Decides.{nat_tests}
 use Rattle.tl_base.specs.NodeSet.{has_node, with_node}
 use Rattle.tl_base.specs.declared.node.NodeSet.{NodeSet}
 use Rattle.tl_protocol.proofs.Held.{vanished_here}
-use Rattle.tl_run.specs.Node.{all_nodes, nodes_in}
+use Rattle.tl_journal.specs.Node.{all_nodes, nodes_in}
 
 abbrev is_in : ℕ → List ℕ → Bool
 is_in d [] = false

@@ -5,7 +5,7 @@ use Rattle.std.proofs.lemmas.Nat.Bits.{bit_at_or, bit_at-lt, bit_at-pow_same}
 use Rattle.tl_base.specs.NodeSet.{has_node, with_node}
 use Rattle.tl_base.specs.declared.node.NodeSet.{NodeSet}
 use Rattle.tl_base.specs.declared.place.Settings.{Settings}
-use Rattle.tl_run.specs.Node.{all_nodes, nodes_in}
+use Rattle.tl_journal.specs.Node.{all_nodes, nodes_in}
 use Rattle.tl_recover.specs.declared.after.After.{After}
 use Rattle.tl_recover.specs.declared.phase.Phase.TheVariants as phase
 use Rattle.tl_recover.specs.Duties.{first_of}

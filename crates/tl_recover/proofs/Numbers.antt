@@ -3,7 +3,7 @@ use Rattle.std.proofs.Common.{◌≡◌, ℕ, zero, suc, ◌+◌, ◌-◌, ◌<�
 use Rattle.std.specs.Prelude.{nat_lt, ◌&&◌}
 use Rattle.tl_base.specs.NodeSet.{has_node}
 use Rattle.tl_base.specs.declared.node.NodeSet.{NodeSet}
-use Rattle.tl_run.specs.Node.{all_nodes}
+use Rattle.tl_journal.specs.Node.{all_nodes}
 use Rattle.tl_recover.specs.Duties.{first_of}
 use Rattle.tl_recover.specs.Taken.{duties_after}
 

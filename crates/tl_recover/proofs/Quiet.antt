@@ -4,7 +4,7 @@ use Rattle.std.specs.Prelude.{if◌then◌else◌}
 use Rattle.tl_base.specs.declared.place.Settings.{Settings}
 use Rattle.tl_descriptor.specs.Tids.{has, inserted}
 use Rattle.tl_manager.specs.declared.mark.Mark.TheVariants as mark
-use Rattle.tl_run.specs.Ask.{Heard, Commits, StoreCommits}
+use Rattle.tl_journal.specs.Ask.{Heard, Commits, StoreCommits}
 use Rattle.tl_recover.specs.declared.phase.Lost.{Lost}
 use Rattle.tl_recover.specs.declared.phase.Phase.TheVariants as phase
 use Rattle.tl_recover.specs.Heeds.{HasMark}

@@ -5,7 +5,7 @@ use Rattle.std.proofs.lemmas.Bool.{ltb-true, lt-ltb}
 use Rattle.std.proofs.lemmas.Bool.Decides.{nat_tests}
 use Rattle.tl_base.specs.NodeSet.{has_node}
 use Rattle.tl_base.specs.declared.node.NodeSet.{NodeSet}
-use Rattle.tl_run.specs.Node.{all_nodes, nodes_in}
+use Rattle.tl_journal.specs.Node.{all_nodes, nodes_in}
 use Rattle.tl_recover.specs.Taken.{duties_after}
 
 -- each is above the one before it, and the first above d

@@ -14,7 +14,7 @@ use Rattle.tl_manager.specs.declared.mark.TxnStep.TheVariants as step
 use Rattle.tl_manager.specs.declared.request.ManagerReply.TheVariants as manager
 use Rattle.tl_versions.specs.Versions.{is_written, strip}
 use Rattle.tl_protocol.specs.Store.{LogCell}
-use Rattle.tl_run.specs.Ask.{StoreCommits, StoreRecord, Heard, Commits, Log, Record, Stored, Moved, Told}
+use Rattle.tl_journal.specs.Ask.{StoreCommits, StoreRecord, Heard, Commits, Log, Record, Stored, Moved, Told}
 use Rattle.tl_recover.specs.declared.after.After.{After}
 use Rattle.tl_recover.specs.declared.phase.Lost.{Lost}
 use Rattle.tl_recover.specs.declared.phase.Phase.{Phase}

@@ -10,7 +10,7 @@ use Rattle.tl_logrec.specs.declared.entry.Flag.TheVariants as flag
 use Rattle.tl_manager.specs.declared.request.Reply.{Reply}
 use Rattle.tl_protocol.specs.Next.{marked}
 use Rattle.tl_protocol.specs.Store.{LogCell}
-use Rattle.tl_run.specs.Ask.{StoreLog}
+use Rattle.tl_journal.specs.Ask.{StoreLog}
 use Rattle.tl_recover.specs.declared.after.After.{After}
 use Rattle.tl_recover.specs.declared.phase.Lost.{Lost}
 use Rattle.tl_recover.specs.Heeds.{Gives, hears_strip}

@@ -1,7 +1,7 @@
 -- What a node does while it recovers others, so far.
 use Rattle.std.specs.Prelude.{ℕ, ◌∷◌, drop}
 use Rattle.tl_base.specs.declared.node.NodeSet.{NodeSet}
-use Rattle.tl_run.specs.Node.{Claimed, Lost, Doing, Outside, Recovering, ReadingLog, Stripping, Finishing, EndingLost, Stopped}
+use Rattle.tl_journal.specs.Node.{Claimed, Lost, Doing, Outside, Recovering, ReadingLog, Stripping, Finishing, EndingLost, Stopped}
 use Rattle.tl_ask.specs.Thin.{commits_if, loaded_if}
 use Rattle.tl_recover.specs.declared.phase.Lost.{Lost as TheLost}
 use Rattle.tl_recover.specs.declared.phase.Phase.{Phase}

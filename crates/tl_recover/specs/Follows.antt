@@ -17,13 +17,13 @@ use Rattle.tl_isolation.specs.declared.entry.Entry.{Entry}
 use Rattle.tl_isolation.specs.declared.entry.Entry.TheVariants as entry
 use Rattle.tl_isolation.specs.declared.state.Commit.{Commit as Committed}
 use Rattle.tl_protocol.specs.Told.{says}
-use Rattle.tl_run.specs.Ask.{AskManager, Heard}
-use Rattle.tl_run.specs.Asks.{asks_doing}
-use Rattle.tl_run.specs.Bytes.{home_of}
-use Rattle.tl_run.specs.Node.{Doing, Outside, Recovering, Node, nodes_in, owed_by}
-use Rattle.tl_run.specs.Says.{says_doing, statement_number}
-use Rattle.tl_run.specs.Strange.{is_odd_for, is_stopped}
-use Rattle.tl_run.specs.Takes.{answered, takes_doing, with_doing}
+use Rattle.tl_journal.specs.Ask.{AskManager, Heard}
+use Rattle.tl_journal.specs.Asks.{asks_doing}
+use Rattle.tl_journal.specs.Bytes.{home_of}
+use Rattle.tl_journal.specs.Node.{Doing, Outside, Recovering, Node, nodes_in, owed_by}
+use Rattle.tl_journal.specs.Says.{says_doing, statement_number}
+use Rattle.tl_journal.specs.Strange.{is_odd_for, is_stopped}
+use Rattle.tl_journal.specs.Takes.{answered, takes_doing, with_doing}
 use Rattle.tl_ask.specs.Thin.{thin}
 use Rattle.tl_recover.specs.declared.phase.Phase.{Phase}
 use Rattle.tl_recover.specs.declared.phase.Phase.TheVariants as phase

@@ -10,9 +10,9 @@ use Rattle.tl_manager.specs.declared.mark.TxnStep.{TxnStep}
 use Rattle.tl_manager.specs.declared.mark.TxnStep.TheVariants as step
 use Rattle.tl_manager.specs.declared.request.ManagerReply.TheVariants as manager
 use Rattle.tl_manager.specs.declared.request.Reply.{Reply}
-use Rattle.tl_run.specs.Ask.{Ask, LoadCommits, Heard, Told, Strange}
-use Rattle.tl_run.specs.Bytes.{heard}
-use Rattle.tl_run.specs.Node.{nodes_in}
+use Rattle.tl_journal.specs.Ask.{Ask, LoadCommits, Heard, Told, Strange}
+use Rattle.tl_journal.specs.Bytes.{heard}
+use Rattle.tl_journal.specs.Node.{nodes_in}
 use Rattle.tl_ask.specs.Asked.{asked}
 use Rattle.tl_ask.specs.Hears.{hears_log, hears_manager, hears_record, hears_store}
 use Rattle.tl_ask.specs.declared.asked.Asked.{Asked}

@@ -15,10 +15,10 @@ use Rattle.tl_manager.specs.declared.request.ManagerRequest.TheVariants as reque
 use Rattle.tl_versions.specs.Versions.{is_written, strip}
 use Rattle.tl_protocol.specs.Next.{marked}
 use Rattle.tl_protocol.specs.Store.{LogCell}
-use Rattle.tl_run.specs.Ask.{Ask, LoadCommits, StoreCommits, LoadLog, StoreLog, LoadRecord, StoreRecord, AskManager, Heard, Commits, Log, Record, Stored, Moved, Told}
-use Rattle.tl_run.specs.Bytes.{home_of}
-use Rattle.tl_run.specs.Node.{nodes_in}
-use Rattle.tl_run.specs.Served.{is_record_key}
+use Rattle.tl_journal.specs.Ask.{Ask, LoadCommits, StoreCommits, LoadLog, StoreLog, LoadRecord, StoreRecord, AskManager, Heard, Commits, Log, Record, Stored, Moved, Told}
+use Rattle.tl_journal.specs.Bytes.{home_of}
+use Rattle.tl_journal.specs.Node.{nodes_in}
+use Rattle.tl_journal.specs.Served.{is_record_key}
 use Rattle.tl_recover.specs.declared.phase.Lost.{Lost}
 use Rattle.tl_recover.specs.declared.phase.Phase.{Phase}
 use Rattle.tl_recover.specs.declared.phase.Phase.TheVariants as phase

@@ -2,7 +2,7 @@
 
 ghost use Rattle.std.specs.Prelude.{◌≡◌, ◌≤◌, ℕ, List, ◌∷◌, ◌&&◌, nat_lt, true, false, MatchOption};
 ghost use Rattle.tl_base.specs.NodeSet.{has_node};
-ghost use Rattle.tl_run.specs.Node.{nodes_in};
+ghost use Rattle.tl_journal.specs.Node.{nodes_in};
 ghost use Rattle.tl_recover.specs.Duties.{first_of};
 ghost use Rattle.tl_recover.specs.Heeds.{written};
 ghost use Rattle.tl_recover.specs.Taken.{duties_after, finding, next_duty};

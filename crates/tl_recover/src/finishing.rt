@@ -1,8 +1,8 @@
 //! The transaction is put among the finished ones, and ended at its manager.
 
 ghost use Rattle.std.specs.Prelude.{◌≡◌, true, false};
-ghost use Rattle.tl_run.specs.Ask.{Commits, LoadCommits, StoreCommits};
-ghost use Rattle.tl_run.specs.Bytes.{heard};
+ghost use Rattle.tl_journal.specs.Ask.{Commits, LoadCommits, StoreCommits};
+ghost use Rattle.tl_journal.specs.Bytes.{heard};
 ghost use Rattle.tl_ask.specs.Hears.{hears_store};
 ghost use Rattle.tl_recover.specs.declared.phase.Phase.TheVariants as phase;
 ghost use Rattle.tl_recover.specs.Heeds.{Gives, hears_finish, written};

@@ -1,6 +1,6 @@
 ghost use Rattle.std.specs.Prelude.{◌≡◌, ℕ, List, ◌∷◌};
 ghost use Rattle.tl_base.specs.declared.node.NodeSet.{NodeSet};
-ghost use Rattle.tl_run.specs.Node.{nodes_in};
+ghost use Rattle.tl_journal.specs.Node.{nodes_in};
 ghost use Rattle.tl_recover.specs.Follows.{Awaits, Begins, Ends, GoesOn, GoesOnOrEnds, HasDuty, IsStrangeAlike, OwesAll};
 ghost use Rattle.tl_recover.specs.Taken.{duties_after};
 

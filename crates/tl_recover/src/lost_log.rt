@@ -2,8 +2,8 @@
 
 ghost use Rattle.std.specs.Prelude.{◌≡◌, Some};
 ghost use Rattle.std.specs.List.{list_all};
-ghost use Rattle.tl_run.specs.Ask.{Log};
-ghost use Rattle.tl_run.specs.Served.{is_record_key};
+ghost use Rattle.tl_journal.specs.Ask.{Log};
+ghost use Rattle.tl_journal.specs.Served.{is_record_key};
 ghost use Rattle.tl_ask.specs.Hears.{hears_log};
 ghost use Rattle.tl_recover.specs.Heeds.{Gives};
 ghost use Rattle.tl_recover.specs.Taken.{by_flag, is_odd_log, takes_log};

@@ -3,7 +3,7 @@
 ghost use Rattle.std.specs.Prelude.{◌≡◌, ℕ, ◌+◌, ◌<◌, IfOk, length, slice_get, true, false, Some, None, if◌then◌else◌};
 ghost use Rattle.tl_versions.specs.Versions.{is_written, strip};
 ghost use Rattle.tl_protocol.specs.Store.{LogCell as TheCell};
-ghost use Rattle.tl_run.specs.Ask.{Record, StoreRecord};
+ghost use Rattle.tl_journal.specs.Ask.{Record, StoreRecord};
 ghost use Rattle.tl_ask.specs.Asked.{asked};
 ghost use Rattle.tl_ask.specs.Hears.{hears_record, hears_store};
 ghost use Rattle.tl_recover.specs.Heeds.{Gives, hears_strip};

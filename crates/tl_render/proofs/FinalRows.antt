@@ -34,17 +34,17 @@ use Rattle.tl_protocol.proofs.Cells.{key_eq}
 use Rattle.tl_protocol.proofs.Proper.{tables_home}
 use Rattle.tl_protocol.proofs.Reached.{reached}
 use Rattle.tl_protocol.proofs.Standing.{stands_for}
-use Rattle.tl_run.specs.declared.event.Event.{Event}
-use Rattle.tl_run.specs.Binding.{WriteFits}
-use Rattle.tl_run.specs.Bytes.{commits_key}
-use Rattle.tl_run.specs.Journal.{entries_told}
-use Rattle.tl_run.specs.Law.{Holds, IsRun, bytes_at}
-use Rattle.tl_run.specs.Served.{is_record_key, parts_of}
-use Rattle.tl_run.proofs.Journals.{holds_at, stood_at}
-use Rattle.tl_run.proofs.Opens.{layout_of}
-use Rattle.tl_run.proofs.Store.{StoreIs}
-use Rattle.tl_run.proofs.StoreLogs.{same_key_turned}
-use Rattle.tl_run.proofs.StoreOpening.{opening_store}
+use Rattle.tl_journal.specs.declared.event.Event.{Event}
+use Rattle.tl_journal.specs.Binding.{WriteFits}
+use Rattle.tl_journal.specs.Bytes.{commits_key}
+use Rattle.tl_journal.specs.Journal.{entries_told}
+use Rattle.tl_journal.specs.Law.{Holds, IsRun, bytes_at}
+use Rattle.tl_journal.specs.Served.{is_record_key, parts_of}
+use Rattle.tl_journal.proofs.Journals.{holds_at, stood_at}
+use Rattle.tl_journal.proofs.Opens.{layout_of}
+use Rattle.tl_journal.proofs.Store.{StoreIs}
+use Rattle.tl_journal.proofs.StoreLogs.{same_key_turned}
+use Rattle.tl_journal.proofs.StoreOpening.{opening_store}
 use Rattle.tl_places.specs.Opening.{row_writes}
 use Rattle.tl_render.specs.Stored.{Stored, finished_in, last_stored, row_in, with_cells}
 use Rattle.tl_render.proofs.LastStores.{cell_last, events_home, value_over}

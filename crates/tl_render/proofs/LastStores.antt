@@ -20,11 +20,11 @@ use Rattle.tl_manager.specs.declared.request.Request.{Request}
 use Rattle.tl_manager.specs.declared.request.Request.TheVariants as request
 use Rattle.tl_isolation.specs.declared.script.Script.{Script}
 use Rattle.tl_protocol.specs.Store.{Key, last_of, put_at, same_key}
-use Rattle.tl_run.specs.declared.event.Event.{Event}
-use Rattle.tl_run.specs.Ask.{Ask, StoreCommits, StoreLog, StoreRecord}
-use Rattle.tl_run.specs.Bytes.{place_of, shard_at, written}
-use Rattle.tl_run.specs.Journal.{IsEvent, shard_call, shard_log}
-use Rattle.tl_run.proofs.StoreLogs.{call_of, cell_in, cell_stored, cell_unmoved, log_grows}
+use Rattle.tl_journal.specs.declared.event.Event.{Event}
+use Rattle.tl_journal.specs.Ask.{Ask, StoreCommits, StoreLog, StoreRecord}
+use Rattle.tl_journal.specs.Bytes.{place_of, shard_at, written}
+use Rattle.tl_journal.specs.Journal.{IsEvent, shard_call, shard_log}
+use Rattle.tl_journal.proofs.StoreLogs.{call_of, cell_in, cell_stored, cell_unmoved, log_grows}
 use Rattle.tl_render.specs.Stored.{Stored, last_stored, stored_at, stored_by}
 
 -- the bytes that were stored over those that were there

@@ -13,7 +13,7 @@ use Rattle.tl_write.specs.Tables.{Tables}
 use Rattle.tl_descriptor.specs.Tids.{TidSet}
 use Rattle.tl_protocol.specs.Store.{Key, same_key}
 use Rattle.tl_protocol.proofs.Cells.{key_eq}
-use Rattle.tl_run.specs.Served.{is_record_key}
+use Rattle.tl_journal.specs.Served.{is_record_key}
 use Rattle.tl_render.specs.Stored.{Stored, put_row, row_in, with_cell, with_cells}
 
 -- the row that the bytes show, or where nothing was stored the one that was there

@@ -8,7 +8,7 @@ use Rattle.std.specs.FinMap.Entries.{below_all, find, is_sorted}
 use Rattle.std.specs.Ordering.{is_lt}
 use Rattle.tl_write.specs.Own.{key_cmp}
 use Rattle.tl_protocol.specs.Store.{Key, last_of, same_key}
-use Rattle.tl_run.proofs.StoreLogs.{same_key_turned}
+use Rattle.tl_journal.proofs.StoreLogs.{same_key_turned}
 use Rattle.tl_render.specs.Stored.{Stored, stored_at}
 
 none_before : (o : Option (List ℕ)) → last_of None o ≡ o

@@ -3,9 +3,9 @@ use Rattle.std.proofs.Common.{◌≡◌, ℕ, ◌+◌, suc, ◌<◌, List, ◌�
 use Rattle.std.specs.List.{flat_map, enumerate_from}
 use Rattle.std.proofs.lemmas.Grind.{flat_map-append}
 use Rattle.std.proofs.lemmas.List.Elements.{filter_map-append}
-use Rattle.tl_run.specs.declared.event.Event.{Event}
+use Rattle.tl_journal.specs.declared.event.Event.{Event}
 use Rattle.tl_isolation.specs.Script.{answer_at, answers_by}
-use Rattle.tl_run.specs.Journal.{entries_told}
+use Rattle.tl_journal.specs.Journal.{entries_told}
 use Rattle.tl_render.specs.Printed.{answer_text, ending_at, ending_text, endings_of}
 
 -- the item at the front of what is left

@@ -15,8 +15,8 @@ use Rattle.tl_versions.specs.declared.version.Version.{Version}
 use Rattle.tl_versions.specs.Reading.{read_cell}
 use Rattle.tl_write.specs.Tables.{Tables}
 use Rattle.tl_protocol.specs.Store.{Key, last_of, row_shown, same_key}
-use Rattle.tl_run.specs.declared.event.Event.{Event}
-use Rattle.tl_run.specs.Served.{is_record_key}
+use Rattle.tl_journal.specs.declared.event.Event.{Event}
+use Rattle.tl_journal.specs.Served.{is_record_key}
 
 -- the bytes of a cell, with its key
 abbrev pub Stored : Type 0

@@ -2,8 +2,8 @@
 
 ghost use Rattle.std.specs.Prelude.{◌≡◌, IfOk};
 ghost use Rattle.tl_base.specs.declared.place.Settings.{Settings};
-ghost use Rattle.tl_run.specs.Journal.{entries_told};
-ghost use Rattle.tl_run.specs.Law.{IsRun};
+ghost use Rattle.tl_journal.specs.Journal.{entries_told};
+ghost use Rattle.tl_journal.specs.Law.{IsRun};
 ghost use Rattle.tl_render.specs.Printed.{printed};
 
 use crate::session::push_sessions;
@@ -12,7 +12,7 @@ use crate::table::push_tables;
 use std::alloc::Global;
 use tl_base::{Bytes, NoMemory};
 use tl_isolation::Script;
-use tl_run::Journal;
+use tl_journal::Journal;
 
 /// The printed text: each session with its answers, and each table after all commits. The rows are those that the
 /// store shows at the end of the run.

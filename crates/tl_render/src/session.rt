@@ -4,13 +4,13 @@ ghost use Rattle.std.specs.Prelude.{◌≡◌, ◌++◌, OnOk};
 ghost use Rattle.std.specs.Option.{option_copied};
 ghost use Rattle.std.specs.List.{flat_map};
 ghost use Rattle.tl_isolation.specs.Script.{answer_at, answers_by};
-ghost use Rattle.tl_run.specs.Journal.{entries_told};
+ghost use Rattle.tl_journal.specs.Journal.{entries_told};
 ghost use Rattle.tl_render.specs.Printed.{answer_text, ending_at, ending_text, endings_of, session_text, sessions_text};
 
 use crate::answer::{push_answer, push_ending, push_numbered};
 use tl_base::{Bytes, NoMemory, NodeId};
 use tl_isolation::{Answer, Ending, Entry, Session};
-use tl_run::Event;
+use tl_journal::Event;
 
 /// Writes each session, with what the events tell of it.
 pub fn push_sessions(

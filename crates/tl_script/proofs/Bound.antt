@@ -21,7 +21,7 @@ use Rattle.tl_write.specs.Own.{key_cmp, put_write}
 use Rattle.tl_isolation.specs.Tables as tables
 use Rattle.tl_isolation.specs.Tables.{FitsTable, IsAccepted, OpensFitting, opening_writes}
 use Rattle.tl_protocol.proofs.Account.{literal_gives}
-use Rattle.tl_run.specs.Binding.{IsKeyed, StatementFits, TableFits, WriteFits}
+use Rattle.tl_journal.specs.Binding.{IsKeyed, StatementFits, TableFits, WriteFits}
 use Rattle.tl_script.specs.declared.statement.Statement.{Statement}
 use Rattle.tl_script.specs.declared.statement.Statement.TheVariants.{Begin, Commit, Rollback, Recover, Insert, SelectAll, Select, Update, Delete}
 use Rattle.tl_script.specs.Build.{bound_of, key_is, opening_row, row_of, table_of}

@@ -8,7 +8,7 @@ use Rattle.tl_base.specs.declared.place.Settings.{Settings}
 use Rattle.tl_isolation.specs.declared.bound.Bound.{Bound}
 use Rattle.tl_isolation.specs.declared.script.Script.{Script}
 use Rattle.tl_isolation.specs.declared.script.Session.{Session}
-use Rattle.tl_run.specs.Binding.{IsBound, StatementFits}
+use Rattle.tl_journal.specs.Binding.{IsBound, StatementFits}
 use Rattle.tl_script.specs.declared.fault.ScriptError.{ScriptError}
 use Rattle.tl_script.specs.declared.statement.Statement.{Statement}
 use Rattle.tl_script.specs.declared.statement.Statement.TheVariants.{Begin, Commit, Rollback, Recover, Insert, SelectAll, Select, Update, Delete}

@@ -12,7 +12,7 @@ use Rattle.tl_isolation.specs.declared.script.Script.{Script}
 use Rattle.tl_isolation.specs.declared.script.Session.{Session}
 use Rattle.tl_isolation.specs.declared.script.TurnItem.{TurnItem}
 use Rattle.tl_isolation.specs.declared.script.Vanish.{Vanish}
-use Rattle.tl_run.specs.Schedule.{node_of}
+use Rattle.tl_journal.specs.Schedule.{node_of}
 use Rattle.tl_script.specs.declared.statement.Statement.{Statement}
 use Rattle.tl_script.specs.declared.statement.Statement.TheVariants.{Insert}
 use Rattle.tl_script.specs.Build.{bound_of, opening_row, table_of}

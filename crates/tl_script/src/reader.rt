@@ -1,7 +1,7 @@
 //! The parts of a script, line by line.
 
 ghost use Rattle.std.specs.Prelude.{◌≡◌, [], ◌∷◌, ◌++◌, Err, IfOk, MatchOption, OnOk};
-ghost use Rattle.tl_run.specs.Schedule.{node_of};
+ghost use Rattle.tl_journal.specs.Schedule.{node_of};
 ghost use Rattle.tl_script.specs.declared.fault.LineFault.TheVariants as line_fault;
 ghost use Rattle.tl_script.specs.declared.fault.ScriptKind.{ScriptKind};
 ghost use Rattle.tl_script.specs.Build.{bound_of};

@@ -2,7 +2,7 @@
 
 ghost use Rattle.std.specs.Prelude.{◌≡◌, ◌≤◌, ◌<◌, ◌^◌, IfOk, length};
 ghost use Rattle.tl_base.specs.declared.place.Settings.{Settings};
-ghost use Rattle.tl_run.specs.Binding.{IsBound};
+ghost use Rattle.tl_journal.specs.Binding.{IsBound};
 ghost use Rattle.tl_script.specs.declared.fault.ScriptError.TheVariants as error;
 ghost use Rattle.tl_script.specs.Lines.{lines_of};
 ghost use Rattle.tl_script.specs.Script.{GetsAll, Gives, parts_in, script_of};

@@ -1,9 +1,9 @@
 -- The event at a place of a list, and the one directly before it.
 use Rattle.std.proofs.Common.{◌≡◌, ◌∙◌, ℕ, zero, suc, ◌+◌, ◌-◌, ◌≤◌, Bool, true, List, [], ◌∷◌, ◌++◌, Some, length, slice_index_or, ap, refl, sym, arith}
 use Rattle.std.specs.Prelude.{◌==◌}
-use Rattle.tl_run.specs.declared.event.Event.{Event}
-use Rattle.tl_run.specs.Journal.{is_post}
-use Rattle.tl_run.specs.Schedule.{is_behind, latest}
+use Rattle.tl_journal.specs.declared.event.Event.{Event}
+use Rattle.tl_journal.specs.Journal.{is_post}
+use Rattle.tl_journal.specs.Schedule.{is_behind, latest}
 
 event_at : (past : List Event) (e : Event) (rest : List Event) (k : ℕ) (d : Event) → k ≡ length past → slice_index_or (past ++ e ∷ rest) k d ≡ e
 event_at [] e rest zero d h = refl

@@ -4,9 +4,9 @@ use Rattle.std.specs.Prelude.{if◌then◌else◌}
 use Rattle.std.proofs.lemmas.Bool.{eq-eqb}
 use Rattle.tl_isolation.specs.declared.script.Script.{Script}
 use Rattle.tl_isolation.specs.declared.script.TurnItem.{TurnItem}
-use Rattle.tl_run.specs.declared.event.Event.{Event}
-use Rattle.tl_run.specs.Journal.{is_post}
-use Rattle.tl_run.specs.Schedule.{Clock, clock_after, clock_from, is_behind, latest, taken, ticked, turn_at, turn_by, unfinished}
+use Rattle.tl_journal.specs.declared.event.Event.{Event}
+use Rattle.tl_journal.specs.Journal.{is_post}
+use Rattle.tl_journal.specs.Schedule.{Clock, clock_after, clock_from, is_behind, latest, taken, ticked, turn_at, turn_by, unfinished}
 use Rattle.tl_turns.specs.Clock.{after_turn, passed}
 use Rattle.tl_turns.proofs.Finished.{passes_again, passes_twice}
 

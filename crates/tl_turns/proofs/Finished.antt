@@ -7,9 +7,9 @@ use Rattle.tl_isolation.specs.declared.script.TurnItem.{TurnItem}
 use Rattle.tl_isolation.specs.declared.script.TurnItem.TheVariants.{One, Until}
 use Rattle.tl_isolation.specs.Script.{answers_by}
 use Rattle.tl_isolation.proofs.Lookups.{passes}
-use Rattle.tl_run.specs.declared.event.Event.{Event}
-use Rattle.tl_run.specs.Journal.{entries_told}
-use Rattle.tl_run.specs.Schedule.{Clock, is_finished, is_over, next_round, node_of, turn_at, turn_by, unfinished}
+use Rattle.tl_journal.specs.declared.event.Event.{Event}
+use Rattle.tl_journal.specs.Journal.{entries_told}
+use Rattle.tl_journal.specs.Schedule.{Clock, is_finished, is_over, next_round, node_of, turn_at, turn_by, unfinished}
 use Rattle.tl_turns.proofs.Grows.{finished_stays}
 
 not_true : (b : Bool) → not b ≡ true → b ≡ false

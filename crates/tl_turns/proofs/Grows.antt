@@ -13,9 +13,9 @@ use Rattle.tl_isolation.specs.declared.script.Session.{Session}
 use Rattle.tl_isolation.specs.declared.script.TurnItem.{TurnItem}
 use Rattle.tl_isolation.specs.declared.script.TurnItem.TheVariants.{One, Until}
 use Rattle.tl_isolation.specs.Script.{answer_at, answers_by}
-use Rattle.tl_run.specs.declared.event.Event.{Event}
-use Rattle.tl_run.specs.Journal.{entries_told, has_vanished, posts, session_of}
-use Rattle.tl_run.specs.Schedule.{is_done, is_finished, is_over}
+use Rattle.tl_journal.specs.declared.event.Event.{Event}
+use Rattle.tl_journal.specs.Journal.{entries_told, has_vanished, posts, session_of}
+use Rattle.tl_journal.specs.Schedule.{is_done, is_finished, is_over}
 
 larger : (n a b c : ℕ) → c ≡ a + b → nat_le n a ≡ true → nat_le n c ≡ true
 larger n a b c e h = grind (arith, nat_tests)

@@ -16,20 +16,20 @@ use Rattle.tl_manager.specs.declared.request.Request.TheVariants as request
 use Rattle.tl_isolation.specs.declared.entry.Answer.TheVariants as answer
 use Rattle.tl_isolation.specs.declared.script.Script.{Script}
 use Rattle.tl_isolation.specs.declared.script.Session.{Session}
-use Rattle.tl_run.specs.declared.event.Event.{Event}
-use Rattle.tl_run.specs.Ask.{Ask, AskManager}
-use Rattle.tl_run.specs.Asks.{asks}
-use Rattle.tl_run.specs.Bytes.{heard, home_of, written}
-use Rattle.tl_run.specs.Journal.{IsCall, IsEvent, IsPost, is_post, node_after, session_of}
-use Rattle.tl_run.specs.Law.{IsRun}
-use Rattle.tl_run.specs.Node.{Node, owed_by}
-use Rattle.tl_run.specs.Schedule.{is_refusal}
-use Rattle.tl_run.specs.Strange.{is_odd_for, is_stopped}
-use Rattle.tl_run.specs.Takes.{takes}
-use Rattle.tl_run.proofs.Asking.{asks_no_post}
-use Rattle.tl_run.proofs.Logs.{along_at, at_event, manager_replies}
-use Rattle.tl_run.proofs.Posted.{home_among}
-use Rattle.tl_run.proofs.StrangeReplies.{nothing_strange}
+use Rattle.tl_journal.specs.declared.event.Event.{Event}
+use Rattle.tl_journal.specs.Ask.{Ask, AskManager}
+use Rattle.tl_journal.specs.Asks.{asks}
+use Rattle.tl_journal.specs.Bytes.{heard, home_of, written}
+use Rattle.tl_journal.specs.Journal.{IsCall, IsEvent, IsPost, is_post, node_after, session_of}
+use Rattle.tl_journal.specs.Law.{IsRun}
+use Rattle.tl_journal.specs.Node.{Node, owed_by}
+use Rattle.tl_journal.specs.Schedule.{is_refusal}
+use Rattle.tl_journal.specs.Strange.{is_odd_for, is_stopped}
+use Rattle.tl_journal.specs.Takes.{takes}
+use Rattle.tl_journal.proofs.Asking.{asks_no_post}
+use Rattle.tl_journal.proofs.Logs.{along_at, at_event, manager_replies}
+use Rattle.tl_journal.proofs.Posted.{home_among}
+use Rattle.tl_journal.proofs.StrangeReplies.{nothing_strange}
 use Rattle.tl_turns.proofs.Stops.{stops}
 
 -- what holds at each place holds along the list

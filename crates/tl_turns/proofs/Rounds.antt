@@ -4,7 +4,7 @@ use Rattle.std.specs.Prelude.{not}
 use Rattle.std.specs.Option.{option_or}
 use Rattle.std.proofs.lemmas.Bool.Decides.{nat_tests}
 use Rattle.std.proofs.lemmas.List.Folds.{find-append}
-use Rattle.tl_run.specs.Schedule.{node_numbers}
+use Rattle.tl_journal.specs.Schedule.{node_numbers}
 use Rattle.tl_turns.specs.Clock.{IsFirst}
 use Rattle.tl_turns.proofs.Rows.{AreFrom, found_from, missed_from, none_from}
 

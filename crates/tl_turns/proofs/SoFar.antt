@@ -11,14 +11,14 @@ use Rattle.tl_isolation.specs.declared.script.Script.{Script}
 use Rattle.tl_isolation.specs.declared.script.Session.{Session}
 use Rattle.tl_isolation.specs.declared.script.TurnItem.{TurnItem}
 use Rattle.tl_isolation.proofs.Lookups.{found}
-use Rattle.tl_outcome.specs.Run.{HasRun}
-use Rattle.tl_run.specs.declared.event.Event.{Event}
-use Rattle.tl_run.specs.Journal.{has_vanished, is_post, session_of}
-use Rattle.tl_run.specs.Binding.{IsBound}
-use Rattle.tl_run.specs.Law.{IsRun}
-use Rattle.tl_run.specs.Run.{EndsAt}
-use Rattle.tl_run.specs.Schedule.{Clock, EndsSo, InTurn, MayAsk, clock_after, gave_none, is_behind, is_done, is_due, is_over, is_spent, next_round, owes_notice, turn_at, unfinished}
-use Rattle.tl_run.proofs.Opens.{found_number}
+use Rattle.tl_journal.specs.Outcome.{HasRun}
+use Rattle.tl_journal.specs.declared.event.Event.{Event}
+use Rattle.tl_journal.specs.Journal.{has_vanished, is_post, session_of}
+use Rattle.tl_journal.specs.Binding.{IsBound}
+use Rattle.tl_journal.specs.Law.{IsRun}
+use Rattle.tl_journal.specs.Run.{EndsAt}
+use Rattle.tl_journal.specs.Schedule.{Clock, EndsSo, InTurn, MayAsk, clock_after, gave_none, is_behind, is_done, is_due, is_over, is_spent, next_round, owes_notice, turn_at, unfinished}
+use Rattle.tl_journal.proofs.Opens.{found_number}
 use Rattle.tl_world.specs.declared.world.Turned.{Turned}
 use Rattle.tl_world.specs.declared.world.Turned.TheVariants as turned
 use Rattle.tl_world.specs.Stands.{Stands, WorldValue}

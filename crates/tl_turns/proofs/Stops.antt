@@ -14,14 +14,14 @@ use Rattle.tl_isolation.specs.declared.bound.Bound.{Bound}
 use Rattle.tl_isolation.specs.declared.entry.Answer.{Answer}
 use Rattle.tl_protocol.specs.Store.{CommitsCell, Key, LogCell}
 use Rattle.tl_protocol.specs.World.{Decision, Loaded, Txn}
-use Rattle.tl_run.specs.Ask.{Ask, LoadCommits, AskManager, Heard, Strange, Told}
-use Rattle.tl_run.specs.Asks.{Course, ToBegin, ToRead, asks, asks_doing, course_in, course_outside}
-use Rattle.tl_run.specs.Bytes.{heard}
-use Rattle.tl_run.specs.Node.{Claimed, Lost, Removing, Storing, Doing, Outside, Inside, Reading, Stores, Removes, Closing, Recovering, Stripping, Finishing, Stopped, Node}
-use Rattle.tl_run.specs.Reads.{Point, Range, Read, Reads}
-use Rattle.tl_run.specs.Schedule.{is_refusal}
-use Rattle.tl_run.specs.Strange.{is_stopped}
-use Rattle.tl_run.specs.Takes.{after_reply, takes, takes_closing, takes_doing, takes_finishing, takes_inside, takes_outside, takes_read, takes_recovering, takes_removing, takes_storing, takes_stripping}
+use Rattle.tl_journal.specs.Ask.{Ask, LoadCommits, AskManager, Heard, Strange, Told}
+use Rattle.tl_journal.specs.Asks.{Course, ToBegin, ToRead, asks, asks_doing, course_in, course_outside}
+use Rattle.tl_journal.specs.Bytes.{heard}
+use Rattle.tl_journal.specs.Node.{Claimed, Lost, Removing, Storing, Doing, Outside, Inside, Reading, Stores, Removes, Closing, Recovering, Stripping, Finishing, Stopped, Node}
+use Rattle.tl_journal.specs.Reads.{Point, Range, Read, Reads}
+use Rattle.tl_journal.specs.Schedule.{is_refusal}
+use Rattle.tl_journal.specs.Strange.{is_stopped}
+use Rattle.tl_journal.specs.Takes.{after_reply, takes, takes_closing, takes_doing, takes_finishing, takes_inside, takes_outside, takes_read, takes_recovering, takes_removing, takes_storing, takes_stripping}
 
 -- what is heard of a full place, and of a transaction that isn't known
 abbrev refused : Bool → Heard

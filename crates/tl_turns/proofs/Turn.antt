@@ -3,8 +3,8 @@ use Rattle.std.proofs.Common.{◌≡◌, ℕ, List, [], ◌++◌, Option, None, 
 use Rattle.std.specs.Option.{option_to_list}
 use Rattle.tl_isolation.specs.declared.script.Script.{Script}
 use Rattle.tl_isolation.specs.declared.script.TurnItem.{TurnItem}
-use Rattle.tl_run.specs.declared.event.Event.{Event}
-use Rattle.tl_run.specs.Schedule.{Clock, next_round, turn_at, turn_by}
+use Rattle.tl_journal.specs.declared.event.Event.{Event}
+use Rattle.tl_journal.specs.Schedule.{Clock, next_round, turn_at, turn_by}
 use Rattle.tl_turns.specs.Clock.{HasItem, clock_of, passed}
 use Rattle.tl_turns.specs.declared.clock.Clock as code
 

@@ -2,9 +2,9 @@
 
 ghost use Rattle.std.specs.Prelude.{◌≡◌, ◌++◌, ◌∷◌, List, length};
 ghost use Rattle.tl_isolation.specs.declared.script.Script.{Script as TheScript};
-ghost use Rattle.tl_run.specs.declared.event.Event.{Event as TheEvent};
-ghost use Rattle.tl_run.specs.Journal.{is_post};
-ghost use Rattle.tl_run.specs.Schedule.{is_behind, is_finished, is_over, next_round, node_of, taken, ticked, turn_at, unfinished};
+ghost use Rattle.tl_journal.specs.declared.event.Event.{Event as TheEvent};
+ghost use Rattle.tl_journal.specs.Journal.{is_post};
+ghost use Rattle.tl_journal.specs.Schedule.{is_behind, is_finished, is_over, next_round, node_of, taken, ticked, turn_at, unfinished};
 ghost use Rattle.tl_turns.specs.Clock.{HasItem, IsFirst, IsRunning, after_turn, clock_of, passed};
 ghost use Rattle.tl_world.specs.Seen.{seen_as};
 ghost use Rattle.tl_world.specs.Stands.{Stands};
@@ -12,7 +12,7 @@ ghost use Rattle.tl_world.specs.Stands.{Stands};
 use tl_base::NodeId;
 use tl_isolation::TurnItem;
 use tl_manager::{ManagerRequest, Request};
-use tl_run::Event;
+use tl_journal::Event;
 use tl_world::World;
 
 /// The items of the schedule that are left, and the node that had the last turn behind them, after some events.

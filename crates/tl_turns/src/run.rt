@@ -1,14 +1,14 @@
 //! A run of a script.
 
 ghost use Rattle.std.specs.Prelude.{◌≤◌, ◌<◌, ◌^◌, IfOk, length};
-ghost use Rattle.tl_outcome.specs.Run.{HasRun};
-ghost use Rattle.tl_run.specs.Binding.{IsBound};
+ghost use Rattle.tl_journal.specs.Outcome.{HasRun};
+ghost use Rattle.tl_journal.specs.Binding.{IsBound};
 
 use crate::clock::Clock;
 use std::alloc::Global;
 use tl_base::{NoMemory, Settings};
 use tl_isolation::Script;
-use tl_run::Journal;
+use tl_journal::Journal;
 use tl_world::World;
 
 /// Runs the script to its end, by its schedule: all statements of each node are answered, or it has ended.

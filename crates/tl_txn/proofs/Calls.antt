@@ -4,7 +4,7 @@ use Rattle.tl_descriptor.specs.Tids.{TidSet}
 use Rattle.tl_logrec.specs.declared.entry.Flag.TheVariants as flag
 use Rattle.tl_ask.specs.Asked.{asked}
 use Rattle.tl_ask.specs.declared.asked.Asked.{Asked}
-use Rattle.tl_run.specs.Ask.{StoreLog}
+use Rattle.tl_journal.specs.Ask.{StoreLog}
 use Rattle.tl_txn.specs.Attempt.{Attempt, entry_of}
 use Rattle.tl_txn.specs.Calls.{ask_writes, attempt_of, tries_writes}
 use Rattle.tl_txn.specs.declared.phase.Open.{Open}

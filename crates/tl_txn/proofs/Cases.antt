@@ -9,8 +9,8 @@ use Rattle.tl_manager.specs.declared.request.Reply.{Reply}
 use Rattle.tl_versions.specs.Versions.{is_written, stranger, strip}
 use Rattle.tl_write.specs.declared.write.Write.{Write}
 use Rattle.tl_protocol.specs.Store.{Cell}
-use Rattle.tl_run.specs.Ask.{Heard, AskManager, StoreRecord, Commits, Log, Record, Page, Stored, Moved, Numbers, Told, Strange}
-use Rattle.tl_run.specs.Bytes.{home_of}
+use Rattle.tl_journal.specs.Ask.{Heard, AskManager, StoreRecord, Commits, Log, Record, Page, Stored, Moved, Numbers, Told, Strange}
+use Rattle.tl_journal.specs.Bytes.{home_of}
 use Rattle.tl_ask.specs.Hears.{hears_record, hears_store, store_or_strange}
 use Rattle.tl_ask.specs.declared.heard.StoreOutcome.{StoreOutcome}
 use Rattle.tl_ask.specs.declared.heard.StoreOutcome.TheVariants as outcome

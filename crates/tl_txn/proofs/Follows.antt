@@ -26,14 +26,14 @@ use Rattle.tl_protocol.specs.Next.{end_answer, log_cell, own_version}
 use Rattle.tl_protocol.specs.Store.{Cell, CommitsCell}
 use Rattle.tl_protocol.specs.Told.{finished_as}
 use Rattle.tl_protocol.specs.World.{Stage, Commit, Undo}
-use Rattle.tl_run.specs.Ask.{Ask, StoreCommits, StoreLog, StoreRecord, Heard, Commits, Record, Stored, Moved, Numbers, Told, Strange}
-use Rattle.tl_run.specs.Asks.{Course, ToBegin, asks_removing, asks_storing}
-use Rattle.tl_run.specs.Node.{Doing, Outside, Noted, Drawing, Bringing, Inside, Trying, Stores, Removes, Closing, Ending, Node}
-use Rattle.tl_run.specs.Node as law
-use Rattle.tl_run.specs.Says as says
-use Rattle.tl_run.specs.Strange.{is_odd_for, is_stopped}
-use Rattle.tl_run.specs.Takes as law_takes
-use Rattle.tl_run.specs.Takes.{takes_doing, with_doing}
+use Rattle.tl_journal.specs.Ask.{Ask, StoreCommits, StoreLog, StoreRecord, Heard, Commits, Record, Stored, Moved, Numbers, Told, Strange}
+use Rattle.tl_journal.specs.Asks.{Course, ToBegin, asks_removing, asks_storing}
+use Rattle.tl_journal.specs.Node.{Doing, Outside, Noted, Drawing, Bringing, Inside, Trying, Stores, Removes, Closing, Ending, Node}
+use Rattle.tl_journal.specs.Node as law
+use Rattle.tl_journal.specs.Says as says
+use Rattle.tl_journal.specs.Strange.{is_odd_for, is_stopped}
+use Rattle.tl_journal.specs.Takes as law_takes
+use Rattle.tl_journal.specs.Takes.{takes_doing, with_doing}
 use Rattle.tl_ask.specs.Thin.{commits_if, loaded_if}
 use Rattle.tl_txn.specs.Attempt.{Attempt, entry_of, txn_of}
 use Rattle.tl_txn.specs.Doing.{closed, decided, doing_of, removing_of, storing_of, txn_in}

@@ -8,10 +8,10 @@ use Rattle.tl_descriptor.specs.Tids.{TidSet}
 use Rattle.tl_manager.specs.declared.mark.Mark.{Mark}
 use Rattle.tl_manager.specs.declared.mark.TxnStep.TheVariants as step
 use Rattle.tl_protocol.specs.Store.{row_shown}
-use Rattle.tl_run.specs.Ask.{Found, Heard, Record, Page}
-use Rattle.tl_run.specs.Reads as law
-use Rattle.tl_run.specs.Reads.{Reads, after_read, range_left, rows_found}
-use Rattle.tl_run.specs.Takes.{after_reply}
+use Rattle.tl_journal.specs.Ask.{Found, Heard, Record, Page}
+use Rattle.tl_journal.specs.Reads as law
+use Rattle.tl_journal.specs.Reads.{Reads, after_read, range_left, rows_found}
+use Rattle.tl_journal.specs.Takes.{after_reply}
 use Rattle.tl_ask.specs.Thin.{thin_read}
 use Rattle.tl_txn.specs.Follows.{ReadEnds, ReadGoes, law_read}
 use Rattle.tl_txn.specs.Taken.{next_page, takes_reading, with_rows}

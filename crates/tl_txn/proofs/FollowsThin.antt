@@ -11,12 +11,12 @@ use Rattle.tl_isolation.specs.declared.entry.Answer.{Answer}
 use Rattle.tl_isolation.specs.declared.state.Commit.{Commit as Committed}
 use Rattle.tl_protocol.specs.Store.{CommitsCell}
 use Rattle.tl_protocol.specs.World.{Loaded, Stage}
-use Rattle.tl_run.specs.Ask.{Heard}
-use Rattle.tl_run.specs.Asks.{asks_doing}
-use Rattle.tl_run.specs.Node.{Doing, Noted, Stores, Removes, Closing, Ending, Stopped, Node}
-use Rattle.tl_run.specs.Says.{says_doing}
-use Rattle.tl_run.specs.Strange.{is_odd_for, is_stopped}
-use Rattle.tl_run.specs.Takes.{takes_doing, with_doing}
+use Rattle.tl_journal.specs.Ask.{Heard}
+use Rattle.tl_journal.specs.Asks.{asks_doing}
+use Rattle.tl_journal.specs.Node.{Doing, Noted, Stores, Removes, Closing, Ending, Stopped, Node}
+use Rattle.tl_journal.specs.Says.{says_doing}
+use Rattle.tl_journal.specs.Strange.{is_odd_for, is_stopped}
+use Rattle.tl_journal.specs.Takes.{takes_doing, with_doing}
 use Rattle.tl_ask.specs.Thin.{commits_if, loaded_if, thin, thin_commits, thin_loaded}
 use Rattle.tl_txn.specs.Doing.{closed, decided, doing_of, removing_of, storing_of}
 use Rattle.tl_txn.specs.Follows.{Begins, Ends, Goes, HasInHand, MayHear, Suits}

@@ -2,7 +2,7 @@
 use Rattle.std.proofs.Common.{◌≡◌, Bool, false, refl, sym, subst}
 use Rattle.tl_base.specs.declared.place.Settings.{Settings}
 use Rattle.tl_manager.specs.declared.mark.Mark.{Mark}
-use Rattle.tl_run.specs.Ask.{Heard}
+use Rattle.tl_journal.specs.Ask.{Heard}
 use Rattle.tl_txn.specs.After.{IsTaken, IsTold, does, out}
 use Rattle.tl_txn.specs.Taken.{Taken, strange, unless_odd}
 use Rattle.tl_txn.specs.declared.after.After.{After}

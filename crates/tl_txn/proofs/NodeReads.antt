@@ -8,12 +8,12 @@ use Rattle.tl_manager.specs.declared.mark.TxnStep.TheVariants as step
 use Rattle.tl_isolation.specs.declared.bound.Bound.{Bound}
 use Rattle.tl_isolation.specs.declared.entry.Answer.{Answer}
 use Rattle.tl_protocol.specs.World.{Txn}
-use Rattle.tl_run.specs.Ask.{Heard, Record, Page}
-use Rattle.tl_run.specs.Node.{Node}
-use Rattle.tl_run.specs.Reads as law
-use Rattle.tl_run.specs.Reads.{Reads, after_read, take_cell, take_page}
-use Rattle.tl_run.specs.Says.{says_read}
-use Rattle.tl_run.specs.Takes.{after_reply, goes_on, stopped, takes_read}
+use Rattle.tl_journal.specs.Ask.{Heard, Record, Page}
+use Rattle.tl_journal.specs.Node.{Node}
+use Rattle.tl_journal.specs.Reads as law
+use Rattle.tl_journal.specs.Reads.{Reads, after_read, take_cell, take_page}
+use Rattle.tl_journal.specs.Says.{says_read}
+use Rattle.tl_journal.specs.Takes.{after_reply, goes_on, stopped, takes_read}
 use Rattle.tl_txn.specs.Follows.{law_read}
 use Rattle.tl_txn.specs.NodeReads.{Awaits, NodeReadEnds, NodeReadGoes, NodeReadStops}
 use Rattle.tl_txn.specs.Taken.{takes_reading}

@@ -10,7 +10,7 @@ use Rattle.tl_protocol.specs.Next.{own_version}
 use Rattle.tl_protocol.specs.Store.{last_of, same_key, written}
 use Rattle.tl_protocol.specs.World.{Fresh}
 use Rattle.tl_protocol.proofs.Cells.{key_itself}
-use Rattle.tl_run.specs.Ask.{StoreRecord}
+use Rattle.tl_journal.specs.Ask.{StoreRecord}
 use Rattle.tl_versions.specs.declared.version.Version.{Version}
 use Rattle.tl_versions.specs.Versions.{prune}
 use Rattle.tl_txn.specs.Attempt.{Attempt, txn_of}

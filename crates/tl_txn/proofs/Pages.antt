@@ -4,8 +4,8 @@ use Rattle.std.specs.Option.{option_to_list}
 use Rattle.tl_values.specs.declared.value.Value.{Value}
 use Rattle.tl_descriptor.specs.Tids.{TidSet}
 use Rattle.tl_protocol.specs.Store.{row_shown}
-use Rattle.tl_run.specs.Ask.{Found}
-use Rattle.tl_run.specs.Reads.{key_behind, rows_found}
+use Rattle.tl_journal.specs.Ask.{Found}
+use Rattle.tl_journal.specs.Reads.{key_behind, rows_found}
 
 last_behind : (from : List ℕ) (front : List Found) (last : Found) → key_behind from (front ++ last ∷ []) ≡ last.key ++ 0 ∷ []
 last_behind from [] last = refl

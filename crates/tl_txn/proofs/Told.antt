@@ -7,9 +7,9 @@ use Rattle.tl_descriptor.specs.Tids.{has}
 use Rattle.tl_versions.specs.Versions.{is_written, stranger}
 use Rattle.tl_write.specs.declared.write.Write.{Write}
 use Rattle.tl_protocol.specs.Store.{Cell}
-use Rattle.tl_run.specs.Ask.{Heard, Commits, Record, Page}
-use Rattle.tl_run.specs.Reads as law
-use Rattle.tl_run.specs.Reads.{range_left, rows_found}
+use Rattle.tl_journal.specs.Ask.{Heard, Commits, Record, Page}
+use Rattle.tl_journal.specs.Reads as law
+use Rattle.tl_journal.specs.Reads.{range_left, rows_found}
 use Rattle.tl_txn.specs.After.{IsKnown, IsTold}
 use Rattle.tl_txn.specs.Taken.{Taken, finds, next_page, takes_asking, takes_closing, takes_giving_up, takes_reading, takes_removing, takes_storing, takes_trying_nothing, unless_odd, with_rows}
 use Rattle.tl_txn.specs.declared.phase.Decision.{Decision}

@@ -7,7 +7,7 @@ use Rattle.tl_manager.specs.declared.mark.TxnStep.{TxnStep}
 use Rattle.tl_manager.specs.declared.mark.TxnStep.TheVariants as step
 use Rattle.tl_ask.specs.declared.asked.Asked.{Asked}
 use Rattle.tl_ask.specs.Asked.{asked}
-use Rattle.tl_run.specs.Ask.{Ask}
+use Rattle.tl_journal.specs.Ask.{Ask}
 use Rattle.tl_txn.specs.declared.after.After.{After}
 use Rattle.tl_txn.specs.declared.phase.Phase.TheVariants as phase
 use Rattle.tl_txn.specs.Taken.{Taken}

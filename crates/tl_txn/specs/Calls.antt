@@ -6,8 +6,8 @@ use Rattle.tl_logrec.specs.declared.entry.Flag.TheVariants as flag
 use Rattle.tl_manager.specs.State.{opening_copy}
 use Rattle.tl_write.specs.declared.write.Write.{Write}
 use Rattle.tl_protocol.specs.Move.{is_empty}
-use Rattle.tl_run.specs.Ask.{Ask, LoadCommits, StoreLog, LoadRecord, ReadPage}
-use Rattle.tl_run.specs.Reads as law
+use Rattle.tl_journal.specs.Ask.{Ask, LoadCommits, StoreLog, LoadRecord, ReadPage}
+use Rattle.tl_journal.specs.Reads as law
 use Rattle.tl_txn.specs.Attempt.{Attempt, entry_of}
 use Rattle.tl_txn.specs.declared.phase.Decision.{Decision}
 use Rattle.tl_txn.specs.declared.phase.Decision.TheVariants as decision

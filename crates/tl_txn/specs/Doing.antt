@@ -4,7 +4,7 @@ use Rattle.tl_base.specs.NodeSet.{no_nodes}
 use Rattle.tl_manager.specs.State.{opening_copy}
 use Rattle.tl_protocol.specs.Next.{end_answer}
 use Rattle.tl_protocol.specs.World.{Stage, Txn, Decision, Commit, Undo}
-use Rattle.tl_run.specs.Node.{Storing, Removing, Doing, Outside, Noted, Drawing, Bringing, Inside, Trying, Stores, Removes, Closing, Ending, Stopped}
+use Rattle.tl_journal.specs.Node.{Storing, Removing, Doing, Outside, Noted, Drawing, Bringing, Inside, Trying, Stores, Removes, Closing, Ending, Stopped}
 use Rattle.tl_ask.specs.Thin.{commits_if, loaded_if}
 use Rattle.tl_txn.specs.Attempt.{txn_of}
 use Rattle.tl_txn.specs.declared.phase.Decision.{Decision as TheDecision}

@@ -24,15 +24,15 @@ use Rattle.tl_protocol.specs.Move.{is_empty}
 use Rattle.tl_protocol.specs.Next.{begun_txn, end_answer}
 use Rattle.tl_protocol.specs.Told.{count_in}
 use Rattle.tl_protocol.specs.World.{Stage, Txn}
-use Rattle.tl_run.specs.Ask.{Ask, LoadCommits, StoreLog, LoadRecord, ReadPage, Heard, Commits, Stored, Moved, Told, Strange}
-use Rattle.tl_run.specs.Asks.{ToBegin, ToCommit, ToGiveUp, asks_doing, asks_read, course_in, course_outside, store_trying}
-use Rattle.tl_run.specs.Bytes.{heard, home_of}
-use Rattle.tl_run.specs.Node.{Doing, Outside, Inside, Trying, Node}
-use Rattle.tl_run.specs.Reads as law
-use Rattle.tl_run.specs.Reads.{Reads, after_read, read_of, table_key}
-use Rattle.tl_run.specs.Says.{says_begun, says_doing, statement_number}
-use Rattle.tl_run.specs.Strange.{is_odd_for, is_stopped}
-use Rattle.tl_run.specs.Takes.{after_reply, answered, begins, learnt, takes_doing, with_doing}
+use Rattle.tl_journal.specs.Ask.{Ask, LoadCommits, StoreLog, LoadRecord, ReadPage, Heard, Commits, Stored, Moved, Told, Strange}
+use Rattle.tl_journal.specs.Asks.{ToBegin, ToCommit, ToGiveUp, asks_doing, asks_read, course_in, course_outside, store_trying}
+use Rattle.tl_journal.specs.Bytes.{heard, home_of}
+use Rattle.tl_journal.specs.Node.{Doing, Outside, Inside, Trying, Node}
+use Rattle.tl_journal.specs.Reads as law
+use Rattle.tl_journal.specs.Reads.{Reads, after_read, read_of, table_key}
+use Rattle.tl_journal.specs.Says.{says_begun, says_doing, statement_number}
+use Rattle.tl_journal.specs.Strange.{is_odd_for, is_stopped}
+use Rattle.tl_journal.specs.Takes.{after_reply, answered, begins, learnt, takes_doing, with_doing}
 use Rattle.tl_ask.specs.Thin.{thin, thin_read}
 use Rattle.tl_txn.specs.Attempt.{Attempt, entry_of}
 use Rattle.tl_txn.specs.Calls.{ask_read, attempt_of, awaited}

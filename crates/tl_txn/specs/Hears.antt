@@ -2,8 +2,8 @@
 use Rattle.std.specs.Prelude.{Bool, true, false, Option, Some, None, slice_get}
 use Rattle.tl_manager.specs.declared.request.Reply.{Reply}
 use Rattle.tl_write.specs.declared.write.Write.{Write}
-use Rattle.tl_run.specs.Ask.{LoadCommits, DrawNumbers, Heard, Strange}
-use Rattle.tl_run.specs.Bytes.{heard}
+use Rattle.tl_journal.specs.Ask.{LoadCommits, DrawNumbers, Heard, Strange}
+use Rattle.tl_journal.specs.Bytes.{heard}
 use Rattle.tl_ask.specs.Hears.{hears_manager, hears_page, hears_record, hears_store}
 use Rattle.tl_txn.specs.Taken.{removal_at}
 use Rattle.tl_txn.specs.declared.phase.Phase.{Phase}

@@ -9,13 +9,13 @@ use Rattle.tl_manager.specs.declared.mark.TxnStep.TheVariants as step
 use Rattle.tl_isolation.specs.declared.bound.Bound.{Bound}
 use Rattle.tl_isolation.specs.declared.entry.Answer.{Answer}
 use Rattle.tl_protocol.specs.World.{Txn}
-use Rattle.tl_run.specs.Ask.{Heard}
-use Rattle.tl_run.specs.Asks.{asks_doing}
-use Rattle.tl_run.specs.Node.{Reading, Node}
-use Rattle.tl_run.specs.Reads as law
-use Rattle.tl_run.specs.Reads.{Reads, after_read}
-use Rattle.tl_run.specs.Says.{says_read}
-use Rattle.tl_run.specs.Takes.{after_reply, goes_on, stopped, takes_read, with_doing}
+use Rattle.tl_journal.specs.Ask.{Heard}
+use Rattle.tl_journal.specs.Asks.{asks_doing}
+use Rattle.tl_journal.specs.Node.{Reading, Node}
+use Rattle.tl_journal.specs.Reads as law
+use Rattle.tl_journal.specs.Reads.{Reads, after_read}
+use Rattle.tl_journal.specs.Says.{says_read}
+use Rattle.tl_journal.specs.Takes.{after_reply, goes_on, stopped, takes_read, with_doing}
 use Rattle.tl_ask.specs.Thin.{thin_read}
 use Rattle.tl_txn.specs.Follows.{HasFound, law_read}
 use Rattle.tl_txn.specs.Taken.{Taken, takes_reading}

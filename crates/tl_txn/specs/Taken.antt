@@ -18,10 +18,10 @@ use Rattle.tl_protocol.specs.Move.{is_empty}
 use Rattle.tl_protocol.specs.Next.{own_version}
 use Rattle.tl_protocol.specs.Store.{Cell, CommitsCell, row_shown}
 use Rattle.tl_protocol.specs.World.{Fresh}
-use Rattle.tl_run.specs.Ask.{Ask, LoadCommits, StoreCommits, StoreLog, LoadRecord, StoreRecord, ReadPage, DrawNumbers, AskManager, Found, Heard, Commits, Record, Page, Stored, Moved, Numbers, Told}
-use Rattle.tl_run.specs.Bytes.{home_of}
-use Rattle.tl_run.specs.Reads as law
-use Rattle.tl_run.specs.Reads.{range_left, rows_found}
+use Rattle.tl_journal.specs.Ask.{Ask, LoadCommits, StoreCommits, StoreLog, LoadRecord, StoreRecord, ReadPage, DrawNumbers, AskManager, Found, Heard, Commits, Record, Page, Stored, Moved, Numbers, Told}
+use Rattle.tl_journal.specs.Bytes.{home_of}
+use Rattle.tl_journal.specs.Reads as law
+use Rattle.tl_journal.specs.Reads.{range_left, rows_found}
 use Rattle.tl_txn.specs.Attempt.{Attempt, entry_of, txn_of}
 use Rattle.tl_txn.specs.declared.phase.Decision.{Decision}
 use Rattle.tl_txn.specs.declared.phase.Decision.TheVariants as decision

@@ -5,12 +5,12 @@ use Rattle.tl_schema.specs.declared.catalog.Catalog.{Catalog}
 use Rattle.tl_isolation.specs.declared.bound.Bound.{Bound}
 use Rattle.tl_isolation.specs.declared.entry.Answer.{Answer}
 use Rattle.tl_isolation.specs.declared.state.Commit.{Commit as Committed}
-use Rattle.tl_run.specs.Ask.{Heard}
-use Rattle.tl_run.specs.Asks.{asks_doing}
-use Rattle.tl_run.specs.Node.{Doing, Node}
-use Rattle.tl_run.specs.Says.{says_doing}
-use Rattle.tl_run.specs.Strange.{is_odd_for}
-use Rattle.tl_run.specs.Takes.{takes_doing, with_doing}
+use Rattle.tl_journal.specs.Ask.{Heard}
+use Rattle.tl_journal.specs.Asks.{asks_doing}
+use Rattle.tl_journal.specs.Node.{Doing, Node}
+use Rattle.tl_journal.specs.Says.{says_doing}
+use Rattle.tl_journal.specs.Strange.{is_odd_for}
+use Rattle.tl_journal.specs.Takes.{takes_doing, with_doing}
 use Rattle.tl_ask.specs.Thin.{thin}
 
 abbrev pub thinned : Node → Node

@@ -1,6 +1,6 @@
 ghost use Rattle.std.specs.Prelude.{◌≡◌, ◌≢◌, IfOk, Some, None};
 ghost use Rattle.tl_base.specs.declared.place.Settings.{Settings};
-ghost use Rattle.tl_run.specs.Ask.{Ask};
+ghost use Rattle.tl_journal.specs.Ask.{Ask};
 ghost use Rattle.tl_ask.specs.Asked.{asked};
 ghost use Rattle.tl_txn.specs.After.{IsTaken, out};
 ghost use Rattle.tl_txn.specs.Taken.{going};

@@ -5,7 +5,7 @@ ghost use Rattle.std.specs.Option.{option_copied};
 ghost use Rattle.std.specs.List.{list_any};
 ghost use Rattle.tl_ask.specs.Asked.{asked};
 ghost use Rattle.tl_ask.specs.Hears.{hears_store, record_or_strange, store_or_strange};
-ghost use Rattle.tl_run.specs.Ask.{StoreRecord};
+ghost use Rattle.tl_journal.specs.Ask.{StoreRecord};
 ghost use Rattle.tl_versions.specs.Versions.{is_written, prune};
 ghost use Rattle.tl_write.specs.declared.write.Write.{Write as TheWrite};
 ghost use Rattle.tl_txn.specs.After.{IsTaken};

@@ -1,8 +1,8 @@
 ghost use Rattle.std.specs.Prelude.{◌≡◌, ◌↔◌, ◌≤◌, IfOk, IsSome, IsTrue, None, OnErr, OnOk, Some};
 ghost use Rattle.std.specs.Option.{option_map};
 ghost use Rattle.tl_ask.specs.Asked.{asked};
-ghost use Rattle.tl_run.specs.Ask.{LoadCommits};
-ghost use Rattle.tl_run.specs.Reads.{range_of, read_of, table_key};
+ghost use Rattle.tl_journal.specs.Ask.{LoadCommits};
+ghost use Rattle.tl_journal.specs.Reads.{range_of, read_of, table_key};
 ghost use Rattle.tl_txn.specs.After.{IsTaken};
 ghost use Rattle.tl_txn.specs.Calls.{IsReady, ask_commit, ask_read, ask_writes, awaited, commits, conflict_in, gives_up, own_in, reads, rival_of, rows_in, rows_taken, snapshot_in, tries_nothing, tries_writes, with_own};
 ghost use Rattle.std.specs.Borrow.{sem};

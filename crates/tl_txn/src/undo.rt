@@ -5,7 +5,7 @@ ghost use Rattle.std.specs.Option.{option_copied};
 ghost use Rattle.tl_ask.specs.Asked.{asked};
 ghost use Rattle.tl_ask.specs.Hears.{record_or_strange, store_or_strange};
 ghost use Rattle.tl_manager.specs.declared.mark.Mark.TheVariants as mark;
-ghost use Rattle.tl_run.specs.Ask.{StoreRecord};
+ghost use Rattle.tl_journal.specs.Ask.{StoreRecord};
 ghost use Rattle.tl_versions.specs.Versions.{strip};
 ghost use Rattle.tl_write.specs.declared.write.Write.{Write as TheWrite};
 ghost use Rattle.tl_txn.specs.After.{IsTaken};

@@ -8,8 +8,8 @@ use Rattle.tl_isolation.specs.declared.bound.Bound.{Bound}
 use Rattle.tl_isolation.specs.declared.script.Script.{Script}
 use Rattle.tl_isolation.specs.declared.script.Session.{Session}
 use Rattle.tl_isolation.specs.declared.script.Vanish.{Vanish}
-use Rattle.tl_run.specs.Binding.{IsBound}
-use Rattle.tl_run.specs.Node.{Node, opening_node, owed_by}
+use Rattle.tl_journal.specs.Binding.{IsBound}
+use Rattle.tl_journal.specs.Node.{Node, opening_node, owed_by}
 use Rattle.tl_places.specs.Places.{AreAt, PlacesState}
 use Rattle.tl_node.specs.Seen.{seen}
 use Rattle.tl_world.specs.Opening.{AreOpened, IsOpened}

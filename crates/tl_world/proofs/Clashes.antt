@@ -13,13 +13,13 @@ use Rattle.tl_isolation.specs.declared.entry.Entry.{Entry}
 use Rattle.tl_isolation.specs.declared.state.Commit.{Commit as Committed}
 use Rattle.tl_protocol.specs.Store.{CommitsCell}
 use Rattle.tl_protocol.specs.World.{Txn, Loaded, Decision, Commit, Undo}
-use Rattle.tl_run.specs.Ask.{Heard, Commits, Record, Stored, Moved, Told}
-use Rattle.tl_run.specs.Asks.{Course, ToBegin, ToRead, ToIdle, ToCommit, ToRecover, course_in, course_outside}
-use Rattle.tl_run.specs.Memory.{has_said}
-use Rattle.tl_run.specs.Node.{Storing, Claimed, Lost, Doing, Outside, Noted, Inside, Reading, Trying, Stores, Closing, Ending, Recovering, Finishing, EndingLost, Node, owed_by}
-use Rattle.tl_run.specs.Reads.{Read, Reads}
-use Rattle.tl_run.specs.Says.{says_at, says_closing, says_commit, says_doing, says_end_lost, says_ending, says_finishing, says_idle, says_inside, says_noted, says_outside, says_read, says_recovered, says_recovering}
-use Rattle.tl_run.specs.Takes.{after_reply, finds, takes, takes_doing, takes_storing, with_doing}
+use Rattle.tl_journal.specs.Ask.{Heard, Commits, Record, Stored, Moved, Told}
+use Rattle.tl_journal.specs.Asks.{Course, ToBegin, ToRead, ToIdle, ToCommit, ToRecover, course_in, course_outside}
+use Rattle.tl_journal.specs.Memory.{has_said}
+use Rattle.tl_journal.specs.Node.{Storing, Claimed, Lost, Doing, Outside, Noted, Inside, Reading, Trying, Stores, Closing, Ending, Recovering, Finishing, EndingLost, Node, owed_by}
+use Rattle.tl_journal.specs.Reads.{Read, Reads}
+use Rattle.tl_journal.specs.Says.{says_at, says_closing, says_commit, says_doing, says_end_lost, says_ending, says_finishing, says_idle, says_inside, says_noted, says_outside, says_read, says_recovered, says_recovering}
+use Rattle.tl_journal.specs.Takes.{after_reply, finds, takes, takes_doing, takes_storing, with_doing}
 use Rattle.tl_world.proofs.Meant.{are_saying}
 
 -- a clash isn't among them

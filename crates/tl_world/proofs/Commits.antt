@@ -17,7 +17,7 @@ use Rattle.tl_isolation.specs.State.{held_as, held_by, is_lost}
 use Rattle.tl_isolation.proofs.Lookups.{passes}
 use Rattle.tl_isolation.specs.Step.{Allowed, after, commit, commit_answer, end_with, forget_note, meet_rival, take_statement, try_commit, undo, undo_answer, with_held}
 use Rattle.tl_protocol.specs.Told.{count_in}
-use Rattle.tl_run.specs.Law.{AreFirst}
+use Rattle.tl_journal.specs.Law.{AreFirst}
 use Rattle.tl_manager.specs.declared.mark.Mark.{Mark}
 use Rattle.tl_manager.specs.declared.mark.Mark.TheVariants as mark
 use Rattle.tl_manager.specs.declared.request.ManagerReply.TheVariants as manager

@@ -17,14 +17,14 @@ use Rattle.tl_isolation.specs.declared.entry.Entry.TheVariants as entry
 use Rattle.tl_isolation.specs.declared.state.Commit.{Commit as Committed}
 use Rattle.tl_protocol.specs.Store.{CommitsCell}
 use Rattle.tl_protocol.specs.World.{Stage, Fresh, Opened, Answering, Txn, Loaded, Decision, Commit, Undo}
-use Rattle.tl_run.specs.Ask.{Heard, Commits, Record, Stored, Told}
-use Rattle.tl_run.specs.Asks.{Course, ToBegin, ToRead, ToIdle, ToCommit, ToGiveUp, course_in, course_outside}
-use Rattle.tl_run.specs.Bytes.{home_of}
-use Rattle.tl_run.specs.Memory.{has_said, unsaid}
-use Rattle.tl_run.specs.Node.{Storing, Claimed, Lost, Doing, Outside, Noted, Inside, Reading, Trying, Stores, Closing, Ending, Recovering, Finishing, EndingLost, Node, owed_by}
-use Rattle.tl_run.specs.Reads.{Read, Reads, all_reads, begin_reads, tables_read}
-use Rattle.tl_run.specs.Says.{says_at, says_closing, says_commit, says_doing, says_end_lost, says_ending, says_finishing, says_idle, says_inside, says_noted, says_outside, says_read, says_recovered, says_recovering, says_rival, says_statement, says_storing}
-use Rattle.tl_run.specs.Takes.{after_reply, goes_on, idles, learnt, said, takes, takes_doing, takes_inside, takes_read, with_doing}
+use Rattle.tl_journal.specs.Ask.{Heard, Commits, Record, Stored, Told}
+use Rattle.tl_journal.specs.Asks.{Course, ToBegin, ToRead, ToIdle, ToCommit, ToGiveUp, course_in, course_outside}
+use Rattle.tl_journal.specs.Bytes.{home_of}
+use Rattle.tl_journal.specs.Memory.{has_said, unsaid}
+use Rattle.tl_journal.specs.Node.{Storing, Claimed, Lost, Doing, Outside, Noted, Inside, Reading, Trying, Stores, Closing, Ending, Recovering, Finishing, EndingLost, Node, owed_by}
+use Rattle.tl_journal.specs.Reads.{Read, Reads, all_reads, begin_reads, tables_read}
+use Rattle.tl_journal.specs.Says.{says_at, says_closing, says_commit, says_doing, says_end_lost, says_ending, says_finishing, says_idle, says_inside, says_noted, says_outside, says_read, says_recovered, says_recovering, says_rival, says_statement, says_storing}
+use Rattle.tl_journal.specs.Takes.{after_reply, goes_on, idles, learnt, said, takes, takes_doing, takes_inside, takes_read, with_doing}
 use Rattle.tl_world.specs.Told.{takes_memory}
 
 both_ways : (b : Bool) → b ≡ true → b ≡ false → ⊥

@@ -17,14 +17,14 @@ use Rattle.tl_isolation.specs.declared.script.Session.{Session}
 use Rattle.tl_isolation.specs.declared.script.Vanish.{Vanish}
 use Rattle.tl_isolation.specs.Script.{answer_at, answers_by}
 use Rattle.tl_protocol.specs.Move.{is_empty}
-use Rattle.tl_run.specs.declared.event.Event.{Event}
-use Rattle.tl_run.specs.Journal.{entries_told, has_vanished, node_after, session_of}
-use Rattle.tl_run.specs.Law.{IsRun}
-use Rattle.tl_run.specs.Node.{Node}
-use Rattle.tl_run.specs.Schedule.{gave_none, is_done, is_due, is_over, latest, requests_of, vanish_of}
-use Rattle.tl_run.proofs.Journals.{spoken_at}
-use Rattle.tl_run.proofs.Logs.{entries_more}
-use Rattle.tl_run.proofs.Speaking.{SpeakIs}
+use Rattle.tl_journal.specs.declared.event.Event.{Event}
+use Rattle.tl_journal.specs.Journal.{entries_told, has_vanished, node_after, session_of}
+use Rattle.tl_journal.specs.Law.{IsRun}
+use Rattle.tl_journal.specs.Node.{Node}
+use Rattle.tl_journal.specs.Schedule.{gave_none, is_done, is_due, is_over, latest, requests_of, vanish_of}
+use Rattle.tl_journal.proofs.Journals.{spoken_at}
+use Rattle.tl_journal.proofs.Logs.{entries_more}
+use Rattle.tl_journal.proofs.Speaking.{SpeakIs}
 use Rattle.tl_node.specs.Seen.{seen}
 use Rattle.tl_node.specs.View.{NodeValue}
 use Rattle.tl_node.proofs.AlikeTold.{todo_seen}

@@ -10,10 +10,10 @@ use Rattle.tl_isolation.specs.declared.entry.Ending.{Ending}
 use Rattle.tl_isolation.specs.declared.entry.Entry.{Entry}
 use Rattle.tl_isolation.specs.declared.entry.Entry.TheVariants as entry
 use Rattle.tl_isolation.specs.declared.script.Script.{Script}
-use Rattle.tl_run.specs.declared.event.Event.{Event}
-use Rattle.tl_run.specs.Bytes.{home_of}
-use Rattle.tl_run.specs.Node.{owed_by}
-use Rattle.tl_run.proofs.Posted.{home_among}
+use Rattle.tl_journal.specs.declared.event.Event.{Event}
+use Rattle.tl_journal.specs.Bytes.{home_of}
+use Rattle.tl_journal.specs.Node.{owed_by}
+use Rattle.tl_journal.proofs.Posted.{home_among}
 use Rattle.tl_places.specs.Places.{PlacesState}
 use Rattle.tl_node.specs.View.{NodeValue}
 use Rattle.tl_world.specs.declared.world.World.{World}

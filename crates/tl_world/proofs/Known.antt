@@ -7,11 +7,11 @@ use Rattle.tl_isolation.specs.declared.script.Script.{Script}
 use Rattle.tl_isolation.specs.declared.script.Session.{Session}
 use Rattle.tl_isolation.proofs.Lookups.{passes}
 use Rattle.tl_protocol.proofs.Frames.{some_same}
-use Rattle.tl_run.specs.declared.event.Event.{Event}
-use Rattle.tl_run.specs.Ask.{Ask}
-use Rattle.tl_run.specs.Journal.{has_vanished, node_after, session_of}
-use Rattle.tl_run.specs.Node.{Node}
-use Rattle.tl_run.proofs.Opens.{found_number}
+use Rattle.tl_journal.specs.declared.event.Event.{Event}
+use Rattle.tl_journal.specs.Ask.{Ask}
+use Rattle.tl_journal.specs.Journal.{has_vanished, node_after, session_of}
+use Rattle.tl_journal.specs.Node.{Node}
+use Rattle.tl_journal.proofs.Opens.{found_number}
 use Rattle.tl_ask.specs.Asked.{asked}
 use Rattle.tl_ask.specs.declared.asked.Asked.{Asked}
 use Rattle.tl_node.specs.View.{NodeValue, asked_by}

@@ -2,10 +2,10 @@
 use Rattle.std.proofs.Common.{◌≡◌, List, [], append-nil, refl, sym, subst}
 use Rattle.std.specs.List.{AllByRecursion}
 use Rattle.tl_write.specs.declared.write.Write.{Write}
-use Rattle.tl_run.specs.Journal.{node_after}
-use Rattle.tl_run.specs.Law.{IsRun, own_in}
-use Rattle.tl_run.specs.Node.{Doing, Inside, Reading}
-use Rattle.tl_run.proofs.OwnKeyed.{own_keyed}
+use Rattle.tl_journal.specs.Journal.{node_after}
+use Rattle.tl_journal.specs.Law.{IsRun, own_in}
+use Rattle.tl_journal.specs.Node.{Doing, Inside, Reading}
+use Rattle.tl_journal.proofs.OwnKeyed.{own_keyed}
 use Rattle.tl_node.proofs.OwnSuits.{StandsUnderItsKey, own_suits, own_writes}
 use Rattle.tl_world.specs.Premises.{OwnSuitsRuns}
 

@@ -18,14 +18,14 @@ use Rattle.tl_isolation.specs.declared.entry.Entry.{Entry}
 use Rattle.tl_isolation.specs.declared.entry.Entry.TheVariants as entry
 use Rattle.tl_isolation.specs.declared.state.Commit.{Commit as Committed}
 use Rattle.tl_protocol.specs.World.{Txn}
-use Rattle.tl_run.specs.Ask.{Heard, Told}
-use Rattle.tl_run.specs.Asks.{Course, ToRead, ToIdle, course_in}
-use Rattle.tl_run.specs.Journal.{answer_said}
-use Rattle.tl_run.specs.Memory.{has_said, is_ending, is_said, unsaid}
-use Rattle.tl_run.specs.Node.{Doing, Inside, Reading, Ending, Node}
-use Rattle.tl_run.specs.Reads.{Read, Reads}
-use Rattle.tl_run.specs.Says.{says_at, says_doing, says_ending, says_idle, says_inside, says_read}
-use Rattle.tl_run.specs.Takes.{MayMean, MeansDoing, MeansIdle, MeansInside, MeansRead, after_reply}
+use Rattle.tl_journal.specs.Ask.{Heard, Told}
+use Rattle.tl_journal.specs.Asks.{Course, ToRead, ToIdle, course_in}
+use Rattle.tl_journal.specs.Journal.{answer_said}
+use Rattle.tl_journal.specs.Memory.{has_said, is_ending, is_said, unsaid}
+use Rattle.tl_journal.specs.Node.{Doing, Inside, Reading, Ending, Node}
+use Rattle.tl_journal.specs.Reads.{Read, Reads}
+use Rattle.tl_journal.specs.Says.{says_at, says_doing, says_ending, says_idle, says_inside, says_read}
+use Rattle.tl_journal.specs.Takes.{MayMean, MeansDoing, MeansIdle, MeansInside, MeansRead, after_reply}
 use Rattle.tl_node.specs.After.{began, marked}
 
 -- a statement is said

@@ -11,15 +11,15 @@ use Rattle.tl_isolation.specs.Script.{setup_of}
 use Rattle.tl_isolation.specs.State.{opening_state}
 use Rattle.tl_isolation.proofs.Lookups.{passes}
 use Rattle.tl_protocol.proofs.Reached.{reached}
-use Rattle.tl_run.specs.declared.event.Event.{Event}
-use Rattle.tl_run.specs.Journal.{entries_told, has_vanished, is_post, node_after, posts, session_of}
-use Rattle.tl_run.specs.Law.{IsRun}
-use Rattle.tl_run.specs.Node.{Node, owed_by}
-use Rattle.tl_run.specs.Schedule.{vanish_of}
-use Rattle.tl_run.proofs.Elsewhere.{after_other}
-use Rattle.tl_run.proofs.Journals.{stood_at}
-use Rattle.tl_run.proofs.Logs.{entries_more, node_more, state_more, vanished_more}
-use Rattle.tl_run.proofs.Opens.{found_number}
+use Rattle.tl_journal.specs.declared.event.Event.{Event}
+use Rattle.tl_journal.specs.Journal.{entries_told, has_vanished, is_post, node_after, posts, session_of}
+use Rattle.tl_journal.specs.Law.{IsRun}
+use Rattle.tl_journal.specs.Node.{Node, owed_by}
+use Rattle.tl_journal.specs.Schedule.{vanish_of}
+use Rattle.tl_journal.proofs.Elsewhere.{after_other}
+use Rattle.tl_journal.proofs.Journals.{stood_at}
+use Rattle.tl_journal.proofs.Logs.{entries_more, node_more, state_more, vanished_more}
+use Rattle.tl_journal.proofs.Opens.{found_number}
 use Rattle.tl_places.specs.Places.{AreAt, PlacesState}
 use Rattle.tl_node.specs.View.{NodeValue, StandsFor}
 use Rattle.tl_world.specs.Stands.{HasSlot, IsNode, IsRunning, IsSlot, SlotValue, StandsAs, WorldValue, committed_in, slot_of, with_slot}

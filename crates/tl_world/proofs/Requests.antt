@@ -23,27 +23,27 @@ use Rattle.tl_isolation.specs.declared.state.Commit.{Commit}
 use Rattle.tl_isolation.specs.History.{state_after}
 use Rattle.tl_isolation.specs.Script.{setup_of}
 use Rattle.tl_protocol.proofs.Frames.{some_same}
-use Rattle.tl_run.specs.declared.event.Event.{Event}
-use Rattle.tl_run.specs.Ask.{Ask, AskManager, Told}
-use Rattle.tl_run.specs.Asks.{asks, asks_inside}
-use Rattle.tl_run.specs.Bytes.{heard, home_of, place_of, written}
-use Rattle.tl_run.specs.Journal.{AreServed, IsCall, IsCut, IsEvent, IsRequest, answer_said, entries_told, has_vanished, is_post, manager_log, node_after, session_of}
-use Rattle.tl_run.specs.Law.{AreFirst, IsRun}
-use Rattle.tl_run.specs.Memory.{cut_short, has_said, is_cut, unsaid}
-use Rattle.tl_run.specs.Node.{Doing, Inside, Node, owed_by}
-use Rattle.tl_run.specs.Says.{says_at}
-use Rattle.tl_run.specs.Strange.{is_strange}
-use Rattle.tl_run.specs.Takes.{MayMean, takes}
-use Rattle.tl_run.proofs.Elsewhere.{after_cut, after_own, said_same}
-use Rattle.tl_run.proofs.FirstCommits.{first_commits}
-use Rattle.tl_run.proofs.Journals.{stood_at}
-use Rattle.tl_run.proofs.Logs.{at_event, manager_replies, node_more}
-use Rattle.tl_run.proofs.Opens.{layout_of}
-use Rattle.tl_run.proofs.Posted.{home_among}
-use Rattle.tl_run.proofs.StoreEvents.{length_next}
-use Rattle.tl_run.proofs.Requests.{request_no_post}
-use Rattle.tl_run.proofs.Stood.{Stood, vanished_same}
-use Rattle.tl_run.proofs.StrangeReplies.{nothing_strange}
+use Rattle.tl_journal.specs.declared.event.Event.{Event}
+use Rattle.tl_journal.specs.Ask.{Ask, AskManager, Told}
+use Rattle.tl_journal.specs.Asks.{asks, asks_inside}
+use Rattle.tl_journal.specs.Bytes.{heard, home_of, place_of, written}
+use Rattle.tl_journal.specs.Journal.{AreServed, IsCall, IsCut, IsEvent, IsRequest, answer_said, entries_told, has_vanished, is_post, manager_log, node_after, session_of}
+use Rattle.tl_journal.specs.Law.{AreFirst, IsRun}
+use Rattle.tl_journal.specs.Memory.{cut_short, has_said, is_cut, unsaid}
+use Rattle.tl_journal.specs.Node.{Doing, Inside, Node, owed_by}
+use Rattle.tl_journal.specs.Says.{says_at}
+use Rattle.tl_journal.specs.Strange.{is_strange}
+use Rattle.tl_journal.specs.Takes.{MayMean, takes}
+use Rattle.tl_journal.proofs.Elsewhere.{after_cut, after_own, said_same}
+use Rattle.tl_journal.proofs.FirstCommits.{first_commits}
+use Rattle.tl_journal.proofs.Journals.{stood_at}
+use Rattle.tl_journal.proofs.Logs.{at_event, manager_replies, node_more}
+use Rattle.tl_journal.proofs.Opens.{layout_of}
+use Rattle.tl_journal.proofs.Posted.{home_among}
+use Rattle.tl_journal.proofs.StoreEvents.{length_next}
+use Rattle.tl_journal.proofs.Requests.{request_no_post}
+use Rattle.tl_journal.proofs.Stood.{Stood, vanished_same}
+use Rattle.tl_journal.proofs.StrangeReplies.{nothing_strange}
 use Rattle.tl_node.specs.After.{answer_in, marked, said_so, statement_in}
 use Rattle.tl_node.specs.Fits.{OwnSuitsNode}
 use Rattle.tl_node.specs.Seen.{seen}

@@ -15,9 +15,9 @@ use Rattle.tl_isolation.specs.declared.entry.Entry.{Entry}
 use Rattle.tl_isolation.specs.declared.entry.Entry.TheVariants as entry
 use Rattle.tl_isolation.specs.declared.script.Script.{Script}
 use Rattle.tl_protocol.proofs.Frames.{some_same}
-use Rattle.tl_run.specs.declared.event.Event.{Event}
-use Rattle.tl_run.specs.Bytes.{home_of}
-use Rattle.tl_run.specs.Node.{owed_by}
+use Rattle.tl_journal.specs.declared.event.Event.{Event}
+use Rattle.tl_journal.specs.Bytes.{home_of}
+use Rattle.tl_journal.specs.Node.{owed_by}
 use Rattle.tl_places.specs.Places.{HaveServed, PlacesState}
 use Rattle.tl_node.specs.View.{NodeValue}
 use Rattle.tl_world.specs.declared.request.Served.{Served}

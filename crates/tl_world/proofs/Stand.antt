@@ -17,17 +17,17 @@ use Rattle.tl_isolation.specs.declared.script.Script.{Script}
 use Rattle.tl_isolation.specs.declared.script.Session.{Session}
 use Rattle.tl_isolation.specs.History.{state_after}
 use Rattle.tl_isolation.specs.Script.{setup_of}
-use Rattle.tl_run.specs.declared.event.Event.{Event}
-use Rattle.tl_run.specs.Ask.{Ask}
-use Rattle.tl_run.specs.Asks.{asks}
-use Rattle.tl_run.specs.Bytes.{home_of, place_of, written}
-use Rattle.tl_run.specs.Journal.{AreServed, IsCall, IsEvent, IsPost, entries_told, has_vanished, is_post, node_after, posts}
-use Rattle.tl_run.specs.Law.{IsRun}
-use Rattle.tl_run.specs.Node.{Node, owed_by}
-use Rattle.tl_run.proofs.Elsewhere.{of_post}
-use Rattle.tl_run.proofs.Logs.{vanished_more}
-use Rattle.tl_run.proofs.Requests.{request_no_post}
-use Rattle.tl_run.proofs.Stood.{vanished_same}
+use Rattle.tl_journal.specs.declared.event.Event.{Event}
+use Rattle.tl_journal.specs.Ask.{Ask}
+use Rattle.tl_journal.specs.Asks.{asks}
+use Rattle.tl_journal.specs.Bytes.{home_of, place_of, written}
+use Rattle.tl_journal.specs.Journal.{AreServed, IsCall, IsEvent, IsPost, entries_told, has_vanished, is_post, node_after, posts}
+use Rattle.tl_journal.specs.Law.{IsRun}
+use Rattle.tl_journal.specs.Node.{Node, owed_by}
+use Rattle.tl_journal.proofs.Elsewhere.{of_post}
+use Rattle.tl_journal.proofs.Logs.{vanished_more}
+use Rattle.tl_journal.proofs.Requests.{request_no_post}
+use Rattle.tl_journal.proofs.Stood.{vanished_same}
 use Rattle.tl_places.specs.Places.{AreAt, HaveServed, PlacesState}
 use Rattle.tl_ask.specs.Asked.{asked}
 use Rattle.tl_ask.specs.declared.asked.Asked.{Asked}

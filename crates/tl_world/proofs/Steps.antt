@@ -14,10 +14,10 @@ use Rattle.tl_isolation.specs.declared.entry.Ending.{Ending}
 use Rattle.tl_isolation.specs.declared.entry.Entry.{Entry}
 use Rattle.tl_isolation.specs.declared.entry.Said.{Said}
 use Rattle.tl_isolation.specs.declared.script.Script.{Script}
-use Rattle.tl_run.specs.declared.event.Event.{Event}
-use Rattle.tl_run.specs.Bytes.{home_of}
-use Rattle.tl_run.specs.Journal.{IsCall}
-use Rattle.tl_run.specs.Node.{owed_by}
+use Rattle.tl_journal.specs.declared.event.Event.{Event}
+use Rattle.tl_journal.specs.Bytes.{home_of}
+use Rattle.tl_journal.specs.Journal.{IsCall}
+use Rattle.tl_journal.specs.Node.{owed_by}
 use Rattle.tl_places.specs.Places.{HaveServed, PlacesState}
 use Rattle.tl_ask.specs.declared.asked.Asked.{Asked}
 use Rattle.tl_node.specs.After.{IsTold, said_so, statement_in}

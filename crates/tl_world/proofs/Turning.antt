@@ -8,8 +8,8 @@ use Rattle.tl_isolation.specs.declared.script.Script.{Script}
 use Rattle.tl_isolation.specs.declared.script.Session.{Session}
 use Rattle.tl_isolation.specs.Script.{answers_by}
 use Rattle.tl_protocol.specs.Move.{is_empty}
-use Rattle.tl_run.specs.Journal.{entries_told, has_vanished, session_of}
-use Rattle.tl_run.specs.Schedule.{EndsSo, MayAsk, is_done, is_due, is_over, is_spent, requests_of}
+use Rattle.tl_journal.specs.Journal.{entries_told, has_vanished, session_of}
+use Rattle.tl_journal.specs.Schedule.{EndsSo, MayAsk, is_done, is_due, is_over, is_spent, requests_of}
 use Rattle.tl_node.specs.View.{NodeValue}
 use Rattle.tl_world.specs.declared.world.Turned.TheVariants as turned
 use Rattle.tl_world.specs.Slot.{answered, has_more}

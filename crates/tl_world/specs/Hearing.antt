@@ -6,7 +6,7 @@ use Rattle.tl_manager.specs.declared.request.Reply.{Reply}
 use Rattle.tl_isolation.specs.declared.bound.Bound.{Bound}
 use Rattle.tl_isolation.specs.declared.entry.Entry.{Entry}
 use Rattle.tl_isolation.specs.declared.entry.Said.{Said}
-use Rattle.tl_run.specs.Journal.{IsCall}
+use Rattle.tl_journal.specs.Journal.{IsCall}
 use Rattle.tl_places.specs.Places.{HaveServed, PlacesState}
 use Rattle.tl_node.specs.After.{IsTold, said_so, statement_in}
 use Rattle.tl_node.specs.View.{NodeValue}

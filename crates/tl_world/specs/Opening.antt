@@ -4,8 +4,8 @@ use Rattle.tl_base.specs.declared.place.Settings.{Settings}
 use Rattle.tl_schema.specs.declared.catalog.Catalog.{Catalog}
 use Rattle.tl_isolation.specs.declared.script.Script.{Script}
 use Rattle.tl_isolation.specs.declared.script.Session.{Session}
-use Rattle.tl_run.specs.Node.{opening_node}
-use Rattle.tl_run.specs.Schedule.{vanish_of}
+use Rattle.tl_journal.specs.Node.{opening_node}
+use Rattle.tl_journal.specs.Schedule.{vanish_of}
 use Rattle.tl_node.specs.View.{NodeValue, StandsFor}
 use Rattle.tl_world.specs.Stands.{SlotValue}
 

@@ -4,9 +4,9 @@ use Rattle.std.specs.List.{AllByRecursion}
 use Rattle.tl_base.specs.declared.place.Settings.{Settings}
 use Rattle.tl_isolation.specs.declared.script.Script.{Script}
 use Rattle.tl_isolation.specs.declared.script.Session.{Session}
-use Rattle.tl_run.specs.declared.event.Event.{Event}
-use Rattle.tl_run.specs.Journal.{AreServed, IsCall, has_vanished, node_after, session_of}
-use Rattle.tl_run.specs.Law.{IsRun}
+use Rattle.tl_journal.specs.declared.event.Event.{Event}
+use Rattle.tl_journal.specs.Journal.{AreServed, IsCall, has_vanished, node_after, session_of}
+use Rattle.tl_journal.specs.Law.{IsRun}
 use Rattle.tl_node.specs.Fits.{OwnSuitsNode}
 use Rattle.tl_node.specs.Seen.{seen}
 use Rattle.tl_places.specs.Places.{AreAt, PlacesState}

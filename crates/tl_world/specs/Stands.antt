@@ -16,13 +16,13 @@ use Rattle.tl_isolation.specs.declared.script.Vanish.{Vanish}
 use Rattle.tl_isolation.specs.declared.state.Commit.{Commit}
 use Rattle.tl_isolation.specs.History.{state_after}
 use Rattle.tl_isolation.specs.Script.{setup_of}
-use Rattle.tl_run.specs.declared.event.Event.{Event}
-use Rattle.tl_run.specs.Binding.{IsBound}
-use Rattle.tl_run.specs.Bytes.{home_of}
-use Rattle.tl_run.specs.Journal.{IsCall, entries_told, has_vanished, node_after, session_of}
-use Rattle.tl_run.specs.Node.{Node, owed_by}
-use Rattle.tl_run.specs.Run.{IsTrace}
-use Rattle.tl_run.specs.Schedule.{counted, counts, requests_of, vanish_of}
+use Rattle.tl_journal.specs.declared.event.Event.{Event}
+use Rattle.tl_journal.specs.Binding.{IsBound}
+use Rattle.tl_journal.specs.Bytes.{home_of}
+use Rattle.tl_journal.specs.Journal.{IsCall, entries_told, has_vanished, node_after, session_of}
+use Rattle.tl_journal.specs.Node.{Node, owed_by}
+use Rattle.tl_journal.specs.Run.{IsTrace}
+use Rattle.tl_journal.specs.Schedule.{counted, counts, requests_of, vanish_of}
 use Rattle.tl_places.specs.Places.{AreAt, HaveServed, PlacesState}
 use Rattle.tl_ask.specs.declared.asked.Asked.{Asked}
 use Rattle.tl_node.specs.View.{NodeValue, StandsFor}

@@ -6,9 +6,9 @@ use Rattle.tl_isolation.specs.declared.entry.Entry.TheVariants as entry
 use Rattle.tl_isolation.specs.declared.script.Script.{Script}
 use Rattle.tl_isolation.specs.declared.script.Session.{Session}
 use Rattle.tl_isolation.specs.declared.script.Vanish.{Vanish}
-use Rattle.tl_run.specs.declared.event.Event.{Event}
-use Rattle.tl_run.specs.Journal.{has_vanished, is_post, session_of}
-use Rattle.tl_run.specs.Schedule.{EndsSo, MayAsk, gave_none, is_done, is_due, is_over, is_spent}
+use Rattle.tl_journal.specs.declared.event.Event.{Event}
+use Rattle.tl_journal.specs.Journal.{has_vanished, is_post, session_of}
+use Rattle.tl_journal.specs.Schedule.{EndsSo, MayAsk, gave_none, is_done, is_due, is_over, is_spent}
 use Rattle.tl_world.specs.declared.world.Turned.{Turned}
 use Rattle.tl_world.specs.declared.world.Turned.TheVariants as turned
 use Rattle.tl_world.specs.Stands.{Stands, StandsBut, WorldValue}

@@ -1,7 +1,7 @@
 //! Which requests are counted until a node vanishes.
 
 ghost use Rattle.std.specs.Prelude.{◌≡◌};
-ghost use Rattle.tl_run.specs.Schedule as schedule;
+ghost use Rattle.tl_journal.specs.Schedule as schedule;
 ghost use Rattle.tl_base.specs.declared.store.StoreRequest.TheVariants as store;
 ghost use Rattle.tl_base.specs.declared.store.StoreReply.TheVariants as stored;
 

@@ -2,7 +2,7 @@
 
 ghost use Rattle.std.specs.Prelude.{◌≡◌, ◌≤◌, ◌==◌, ◌∷◌, [], IfOk, find};
 ghost use Rattle.std.specs.Option.{option_copied};
-ghost use Rattle.tl_run.specs.Schedule as schedule;
+ghost use Rattle.tl_journal.specs.Schedule as schedule;
 ghost use Rattle.tl_world.specs.Opening.{AreOpened, IsOpened};
 
 use crate::slot::Slot;

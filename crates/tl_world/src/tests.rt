@@ -4,7 +4,7 @@ use std::test::Fail;
 use tl_algebra::{Condition, Edit, Expression, Join, Output, Query, SetColumn, Side};
 use tl_base::{Items, NoMemory, NodeId, Settings, Text};
 use tl_isolation::{Answer, Bound, Ending, Entry, Script, Session, Vanish, VanishKind};
-use tl_run::Event;
+use tl_journal::Event;
 use tl_schema::{Catalog, Column, OpeningRow, Table};
 use tl_values::{Comparison, Kind, Row, Rows, Value};
 

@@ -3,9 +3,9 @@
 ghost use Rattle.std.specs.Prelude.{◌≡◌, ◌≤◌, ◌<◌, ◌+◌, ◌^◌, [], false, true, IfOk, MatchOption, OnErr, OnOk, Some, length, slice_index_or, vec_capacity, vec_len};
 ghost use Rattle.tl_isolation.specs.declared.script.Script.{Script as TheScript};
 ghost use Rattle.tl_isolation.specs.Script.{answers_by};
-ghost use Rattle.tl_run.specs.Binding.{IsBound};
-ghost use Rattle.tl_run.specs.Journal.{entries_told};
-ghost use Rattle.tl_run.specs.Schedule.{is_over};
+ghost use Rattle.tl_journal.specs.Binding.{IsBound};
+ghost use Rattle.tl_journal.specs.Journal.{entries_told};
+ghost use Rattle.tl_journal.specs.Schedule.{is_over};
 ghost use Rattle.tl_world.specs.Seen.{HasEnded, HasGoneOn, HasRoom, HasRoomForNotice, HasTurned, IsThere, Runs, seen_as};
 ghost use Rattle.tl_world.specs.Slot.{has_more};
 ghost use Rattle.tl_world.specs.Stands.{Stands};
@@ -24,7 +24,7 @@ use tl_base::{Items, NoMemory, NodeId, PlaceId, Settings, Tid};
 use tl_isolation::{Ending, Entry, Script};
 use tl_manager::Request;
 use tl_places::{Places, places_serve_their_logs};
-use tl_run::{Event, Journal};
+use tl_journal::{Event, Journal};
 
 /// What a node's turn came to.
 #[derive(Clone, Copy, Debug, PartialEq, Eq)]

@@ -2,7 +2,7 @@ use Rattle.std.proofs.Common.{List, map, ap, subst, ◌∙◌}
 use Rattle.tl_algebra.specs.declared.query.Join.{Join}
 use Rattle.tl_algebra.specs.Select.{Tells}
 use Rattle.tl_plan.specs.Plan.{numbers_of}
-use Rattle.tl_run.specs.Takes.{tables_seen}
+use Rattle.tl_journal.specs.Takes.{tables_seen}
 use Rattle.tl_answer.proofs.query.answer_query.Goals as goal
 
 pub returns : goal.returns

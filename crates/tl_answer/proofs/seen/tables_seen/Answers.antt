@@ -1,7 +1,7 @@
 use Rattle.std.proofs.Common.{map, sym, ◌∙◌}
 use Rattle.std.specs.Vec.Iter.{into_iter_items}
 use Rattle.tl_algebra.specs.declared.query.Join.{Join}
-use Rattle.tl_run.specs.Takes.{tables_seen}
+use Rattle.tl_journal.specs.Takes.{tables_seen}
 use Rattle.tl_answer.proofs.Views.{all_seen}
 use Rattle.tl_answer.proofs.seen.tables_seen.Goals as goal
 

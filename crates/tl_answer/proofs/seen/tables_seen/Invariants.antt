@@ -1,6 +1,6 @@
 use Rattle.std.proofs.Common.{◌≡◌, ◌++◌, map}
 use Rattle.std.specs.Vec.Iter.{into_iter_items}
-use Rattle.tl_run.specs.Takes.{tables_seen}
+use Rattle.tl_journal.specs.Takes.{tables_seen}
 use Rattle.tl_answer.proofs.seen.tables_seen.Given as goal
 
 -- what is seen, and then what is left to see, is all

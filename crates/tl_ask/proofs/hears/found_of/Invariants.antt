@@ -1,6 +1,6 @@
 use Rattle.std.proofs.Common.{◌≡◌, List, ◌++◌, Option, Some, None, drop}
-use Rattle.tl_run.specs.Ask.{Found}
-use Rattle.tl_run.specs.Bytes.{found_in}
+use Rattle.tl_journal.specs.Ask.{Found}
+use Rattle.tl_journal.specs.Bytes.{found_in}
 use Rattle.tl_ask.proofs.hears.found_of.Given as goal
 
 -- the cells so far, with those of what is left

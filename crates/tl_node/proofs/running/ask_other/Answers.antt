@@ -3,7 +3,7 @@ use Rattle.std.specs.Prelude.{◌||◌, nat_le}
 use Rattle.tl_descriptor.specs.Tids.{TidSet}
 use Rattle.tl_manager.specs.declared.request.ManagerRequest.TheVariants as request
 use Rattle.tl_protocol.specs.Move.{is_empty}
-use Rattle.tl_run.specs.Ask.{AskManager}
+use Rattle.tl_journal.specs.Ask.{AskManager}
 use Rattle.tl_ask.specs.Asked.{asked}
 use Rattle.tl_txn.specs.Calls.{own_in}
 use Rattle.tl_txn.specs.declared.phase.Phase.{Phase}

@@ -1,6 +1,6 @@
 use Rattle.std.proofs.Common.{Bool, sym, ap, ◌∙◌}
 use Rattle.std.specs.Prelude.{if◌then◌else◌}
-use Rattle.tl_run.specs.Asks.{ToCommit, ToGiveUp}
+use Rattle.tl_journal.specs.Asks.{ToCommit, ToGiveUp}
 use Rattle.tl_node.proofs.running.end_with.Goals as goal
 
 pub returns-in_ok-work : goal.returns-in_ok-work

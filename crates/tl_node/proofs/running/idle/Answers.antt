@@ -1,8 +1,8 @@
 use Rattle.std.proofs.Common.{ap, ◌∙◌}
 use Rattle.tl_manager.specs.declared.request.ManagerRequest.TheVariants as request
 use Rattle.tl_descriptor.specs.Tids.{TidSet}
-use Rattle.tl_run.specs.Ask.{AskManager}
-use Rattle.tl_run.specs.Bytes.{home_of}
+use Rattle.tl_journal.specs.Ask.{AskManager}
+use Rattle.tl_journal.specs.Bytes.{home_of}
 use Rattle.tl_ask.specs.Asked.{asked}
 use Rattle.tl_node.proofs.Leads.{leads_idle}
 use Rattle.tl_node.proofs.running.idle.Goals as goal

@@ -1,6 +1,6 @@
 use Rattle.std.proofs.Common.{ap, ◌∙◌}
 use Rattle.tl_isolation.specs.declared.bound.Bound.{Bound}
-use Rattle.tl_run.specs.Asks.{statement_course}
+use Rattle.tl_journal.specs.Asks.{statement_course}
 use Rattle.tl_node.specs.View.{stage_of}
 use Rattle.tl_node.proofs.Opens.{by_reads, taking}
 use Rattle.tl_node.proofs.running.open_statement.Goals as goal

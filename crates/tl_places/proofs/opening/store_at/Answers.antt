@@ -1,6 +1,6 @@
 use Rattle.std.proofs.Common.{List, [], ◌∷◌, ◌++◌, sym, subst, ◌∙◌}
 use Rattle.tl_cells.specs.Cells.{ShardState}
-use Rattle.tl_run.specs.Journal.{stores_from}
+use Rattle.tl_journal.specs.Journal.{stores_from}
 use Rattle.tl_places.specs.Opening.{Stored}
 use Rattle.tl_places.specs.Places.{ShardHasServed}
 use Rattle.tl_places.proofs.Stores.{stored_next}

@@ -1,6 +1,6 @@
 use Rattle.std.proofs.lemmas.Result.{err_from_is_err_and}
-use Rattle.tl_run.specs.Ask.{LoadCommits}
-use Rattle.tl_run.specs.Bytes.{heard}
+use Rattle.tl_journal.specs.Ask.{LoadCommits}
+use Rattle.tl_journal.specs.Bytes.{heard}
 use Rattle.tl_recover.proofs.Quiet.{commits_quiet}
 use Rattle.tl_recover.proofs.finishing.takes_loaded.Goals as goal
 

@@ -1,6 +1,6 @@
 use Rattle.std.proofs.Common.{ℕ, List, ◌∷◌, Some, None, refl, ap, ◌∙◌}
 use Rattle.tl_manager.specs.declared.mark.TxnStep.TheVariants as step
-use Rattle.tl_run.specs.Node.{Recovering}
+use Rattle.tl_journal.specs.Node.{Recovering}
 use Rattle.tl_recover.proofs.Follows.{fits_step, step_only}
 use Rattle.tl_recover.proofs.FollowsDuties.{some_duty}
 use Rattle.tl_recover.proofs.Rising.{after_first}

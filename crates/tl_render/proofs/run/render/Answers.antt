@@ -7,10 +7,10 @@ use Rattle.tl_isolation.specs.declared.script.Session.{Session}
 use Rattle.tl_isolation.specs.History.{state_after}
 use Rattle.tl_isolation.specs.Script.{setup_of}
 use Rattle.tl_isolation.specs.State.{tables_after}
-use Rattle.tl_run.specs.declared.event.Event.{Event}
-use Rattle.tl_run.specs.declared.event.Journal.{Journal}
-use Rattle.tl_run.specs.Journal.{entries_told}
-use Rattle.tl_run.specs.Law.{IsRun}
+use Rattle.tl_journal.specs.declared.event.Event.{Event}
+use Rattle.tl_journal.specs.declared.event.Journal.{Journal}
+use Rattle.tl_journal.specs.Journal.{entries_told}
+use Rattle.tl_journal.specs.Law.{IsRun}
 use Rattle.tl_render.specs.Printed.{printed, sessions_text, tables_text}
 use Rattle.tl_render.proofs.run.render.Goals as goal
 

@@ -1,7 +1,7 @@
 use Rattle.std.proofs.Common.{◌≡◌, ◌++◌, drop}
 use Rattle.std.specs.List.{flat_map}
 use Rattle.tl_isolation.specs.Script.{answers_by}
-use Rattle.tl_run.specs.Journal.{entries_told}
+use Rattle.tl_journal.specs.Journal.{entries_told}
 use Rattle.tl_render.specs.Printed.{answer_text}
 use Rattle.tl_render.proofs.session.push_answers.Given as goal
 

@@ -1,7 +1,7 @@
 use Rattle.std.proofs.Common.{List, ◌++◌, ap, ◌∙◌}
 use Rattle.std.specs.List.{flat_map}
 use Rattle.tl_isolation.specs.declared.entry.Entry.{Entry}
-use Rattle.tl_run.specs.Journal.{entries_told}
+use Rattle.tl_journal.specs.Journal.{entries_told}
 use Rattle.tl_render.specs.Printed.{ending_text, endings_of}
 use Rattle.tl_render.proofs.Told.{writes_next, endings-told}
 use Rattle.tl_render.proofs.session.push_endings.Goals as goal

@@ -1,6 +1,6 @@
 use Rattle.std.proofs.Common.{◌≡◌, ◌++◌, drop}
 use Rattle.std.specs.List.{flat_map}
-use Rattle.tl_run.specs.Journal.{entries_told}
+use Rattle.tl_journal.specs.Journal.{entries_told}
 use Rattle.tl_render.specs.Printed.{ending_text, endings_of}
 use Rattle.tl_render.proofs.session.push_endings.Given as goal
 

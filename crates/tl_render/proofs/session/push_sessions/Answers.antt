@@ -1,5 +1,5 @@
 use Rattle.std.proofs.Common.{refl}
-use Rattle.tl_run.specs.Journal.{entries_told}
+use Rattle.tl_journal.specs.Journal.{entries_told}
 use Rattle.tl_render.specs.Printed.{session_text, sessions_text}
 use Rattle.tl_render.proofs.Told.{writes_next}
 use Rattle.tl_render.proofs.session.push_sessions.Goals as goal

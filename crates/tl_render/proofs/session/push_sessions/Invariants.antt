@@ -1,5 +1,5 @@
 use Rattle.std.proofs.Common.{◌≡◌, ◌++◌, drop}
-use Rattle.tl_run.specs.Journal.{entries_told}
+use Rattle.tl_journal.specs.Journal.{entries_told}
 use Rattle.tl_render.specs.Printed.{sessions_text}
 use Rattle.tl_render.proofs.session.push_sessions.Given as goal
 

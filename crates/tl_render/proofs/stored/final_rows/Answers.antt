@@ -1,7 +1,7 @@
 use Rattle.std.proofs.Common.{ap, sym, ◌∙◌}
 use Rattle.std.specs.FinMap as finmap
 use Rattle.std.specs.Option.{option_map}
-use Rattle.tl_run.specs.Bytes.{commits_key}
+use Rattle.tl_journal.specs.Bytes.{commits_key}
 use Rattle.tl_render.specs.Stored.{finished_in}
 use Rattle.tl_render.proofs.FinalRows.{final_tables, sorted_entries}
 use Rattle.tl_render.proofs.Taken.{cells_of, find_same, pointed, sorted_same}

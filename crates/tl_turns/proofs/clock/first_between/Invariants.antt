@@ -1,6 +1,6 @@
 use Rattle.std.proofs.Common.{◌≡◌, ◌<◌, ◌≤◌, ℕ, true}
 use Rattle.tl_isolation.specs.declared.script.Script.{Script}
-use Rattle.tl_run.specs.Schedule.{is_over}
+use Rattle.tl_journal.specs.Schedule.{is_over}
 use Rattle.tl_world.specs.Seen.{seen_as}
 use Rattle.tl_world.specs.Stands.{Stands}
 use Rattle.tl_turns.proofs.clock.first_between.Given as goal

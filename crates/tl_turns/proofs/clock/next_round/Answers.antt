@@ -1,5 +1,5 @@
 use Rattle.std.proofs.Common.{sym}
-use Rattle.tl_run.specs.Schedule.{is_over}
+use Rattle.tl_journal.specs.Schedule.{is_over}
 use Rattle.tl_world.specs.Seen.{seen_as}
 use Rattle.tl_turns.proofs.Rounds.{next_above, next_lowest}
 use Rattle.tl_turns.proofs.clock.next_round.Goals as goal

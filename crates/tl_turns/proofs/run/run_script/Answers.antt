@@ -1,6 +1,6 @@
 use Rattle.std.proofs.Common.{◌∙◌, List, length, ap, sym, subst, arith}
-use Rattle.tl_run.specs.declared.event.Event.{Event}
-use Rattle.tl_outcome.specs.Run.{HasRun}
+use Rattle.tl_journal.specs.declared.event.Event.{Event}
+use Rattle.tl_journal.specs.Outcome.{HasRun}
 use Rattle.tl_world.specs.Seen.{seen_as}
 use Rattle.tl_turns.proofs.SoFar.{Kept, begins, finishes, keeps}
 use Rattle.tl_turns.proofs.run.run_script.Goals as goal

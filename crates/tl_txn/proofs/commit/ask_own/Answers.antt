@@ -1,7 +1,7 @@
 use Rattle.std.proofs.Common.{◌≡◌, List, Some, IfOk, sym, ◌∙◌, subst}
 use Rattle.std.specs.Prelude.{slice_get}
 use Rattle.tl_ask.specs.Asked.{asked}
-use Rattle.tl_run.specs.Ask.{Ask}
+use Rattle.tl_journal.specs.Ask.{Ask}
 use Rattle.tl_txn.proofs.Own.{asks_next}
 use Rattle.tl_txn.proofs.commit.ask_own.Goals as goal
 

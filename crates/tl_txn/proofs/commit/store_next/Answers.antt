@@ -1,6 +1,6 @@
 use Rattle.std.proofs.Common.{subst}
 use Rattle.std.specs.Prelude.{slice_get}
-use Rattle.tl_run.specs.Ask.{Ask}
+use Rattle.tl_journal.specs.Ask.{Ask}
 use Rattle.tl_txn.specs.After.{IsTaken}
 use Rattle.tl_txn.specs.Taken.{ask_store, going}
 use Rattle.tl_txn.specs.declared.phase.Phase.TheVariants as phase

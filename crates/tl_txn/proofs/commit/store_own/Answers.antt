@@ -1,4 +1,4 @@
-use Rattle.tl_run.specs.Ask.{StoreRecord}
+use Rattle.tl_journal.specs.Ask.{StoreRecord}
 use Rattle.tl_txn.specs.Taken.{next_versions}
 use Rattle.tl_txn.proofs.commit.store_own.Goals as goal
 

@@ -1,6 +1,6 @@
 use Rattle.std.proofs.Common.{◌≡◌, true, false}
 use Rattle.tl_descriptor.specs.Tids.{has, inserted}
-use Rattle.tl_run.specs.Ask.{Ask, StoreCommits}
+use Rattle.tl_journal.specs.Ask.{Ask, StoreCommits}
 use Rattle.tl_txn.proofs.Hearing.{not_odd, taken_so}
 use Rattle.tl_txn.specs.Taken.{closing, finishes, going}
 use Rattle.tl_txn.proofs.finish.finish.Goals as goal

@@ -1,4 +1,4 @@
-use Rattle.tl_run.specs.Ask.{LoadCommits}
+use Rattle.tl_journal.specs.Ask.{LoadCommits}
 use Rattle.tl_txn.proofs.finish.load_again.Goals as goal
 
 pub returns : goal.returns

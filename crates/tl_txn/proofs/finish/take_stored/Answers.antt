@@ -1,8 +1,8 @@
 use Rattle.std.proofs.Common.{true}
 use Rattle.tl_ask.specs.Hears.{store_or_strange}
 use Rattle.tl_manager.specs.declared.request.ManagerRequest.TheVariants as request
-use Rattle.tl_run.specs.Ask.{Ask, AskManager}
-use Rattle.tl_run.specs.Bytes.{home_of}
+use Rattle.tl_journal.specs.Ask.{Ask, AskManager}
+use Rattle.tl_journal.specs.Bytes.{home_of}
 use Rattle.tl_txn.proofs.Cases.{is_finished}
 use Rattle.tl_txn.proofs.Hearing.{taken_so}
 use Rattle.tl_txn.specs.Taken.{going, takes_closing}

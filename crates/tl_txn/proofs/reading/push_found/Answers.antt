@@ -3,8 +3,8 @@ use Rattle.std.specs.Option.{option_to_list}
 use Rattle.tl_values.specs.declared.value.Value.{Value}
 use Rattle.tl_versions.specs.declared.version.Version.{Version}
 use Rattle.tl_protocol.specs.Store.{row_shown}
-use Rattle.tl_run.specs.Ask.{Found}
-use Rattle.tl_run.specs.Reads.{rows_found}
+use Rattle.tl_journal.specs.Ask.{Found}
+use Rattle.tl_journal.specs.Reads.{rows_found}
 use Rattle.tl_txn.proofs.Pages.{shown_more}
 use Rattle.tl_txn.proofs.reading.push_found.Goals as goal
 

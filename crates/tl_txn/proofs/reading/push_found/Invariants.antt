@@ -1,5 +1,5 @@
 use Rattle.std.proofs.Common.{◌≡◌, ◌++◌, take}
-use Rattle.tl_run.specs.Reads.{rows_found}
+use Rattle.tl_journal.specs.Reads.{rows_found}
 use Rattle.tl_txn.proofs.reading.push_found.Given as goal
 
 -- the rows of the cells so far were put to the others

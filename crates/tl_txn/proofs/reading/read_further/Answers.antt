@@ -1,4 +1,4 @@
-use Rattle.tl_run.specs.Ask.{ReadPage}
+use Rattle.tl_journal.specs.Ask.{ReadPage}
 use Rattle.tl_txn.proofs.reading.read_further.Goals as goal
 
 pub returns : goal.returns

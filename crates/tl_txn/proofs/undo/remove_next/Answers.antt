@@ -1,5 +1,5 @@
 use Rattle.std.proofs.Common.{subst}
-use Rattle.tl_run.specs.Ask.{Ask}
+use Rattle.tl_journal.specs.Ask.{Ask}
 use Rattle.tl_txn.specs.After.{IsTaken}
 use Rattle.tl_txn.specs.Taken.{ask_removal, going, removal_at}
 use Rattle.tl_txn.specs.declared.phase.Phase.TheVariants as phase

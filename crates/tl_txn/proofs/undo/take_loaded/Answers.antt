@@ -1,7 +1,7 @@
 use Rattle.std.proofs.Common.{true, false}
 use Rattle.tl_ask.specs.Hears.{record_or_strange}
 use Rattle.tl_manager.specs.declared.mark.Mark.TheVariants as mark
-use Rattle.tl_run.specs.Ask.{Ask, StoreRecord}
+use Rattle.tl_journal.specs.Ask.{Ask, StoreRecord}
 use Rattle.tl_versions.specs.Versions.{strip}
 use Rattle.tl_txn.proofs.Cases.{is_loaded}
 use Rattle.tl_txn.proofs.Hearing.{taken_so}

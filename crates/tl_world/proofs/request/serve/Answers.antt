@@ -1,5 +1,5 @@
 use Rattle.std.proofs.Common.{rules, sym, subst}
-use Rattle.tl_run.specs.Journal.{IsCall}
+use Rattle.tl_journal.specs.Journal.{IsCall}
 use Rattle.tl_places.specs.Places.{HaveServed}
 use Rattle.tl_manager.specs.declared.request.Request.{Request}
 use Rattle.tl_world.proofs.request.serve.Goals as goal

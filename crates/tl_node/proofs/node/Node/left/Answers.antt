@@ -1,6 +1,6 @@
 use Rattle.std.proofs.Common.{sym, ap, ◌∙◌}
 use Rattle.tl_manager.specs.declared.request.ManagerRequest.TheVariants as request
-use Rattle.tl_run.specs.Node.{owed_by}
+use Rattle.tl_journal.specs.Node.{owed_by}
 use Rattle.tl_node.specs.View.{NodeValue}
 use Rattle.tl_node.proofs.Stopping.{owes_now}
 use Rattle.tl_node.proofs.node.Node.left.Goals as goal

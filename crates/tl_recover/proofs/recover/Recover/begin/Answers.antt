@@ -1,7 +1,7 @@
 use Rattle.std.proofs.Common.{◌≡◌, ℕ, true, List, ◌∷◌, refl, sym, subst}
 use Rattle.tl_base.specs.NodeSet.{has_node, with_node}
 use Rattle.tl_base.specs.declared.node.NodeSet.{NodeSet}
-use Rattle.tl_run.specs.Node.{nodes_in}
+use Rattle.tl_journal.specs.Node.{nodes_in}
 use Rattle.tl_recover.proofs.Least.{begun, is_there}
 use Rattle.tl_recover.proofs.recover.Recover.begin.Goals as goal
 

@@ -2,8 +2,8 @@ use Rattle.std.proofs.Common.{◌<◌, length, refl, sym, ap, ◌∙◌, arith}
 use Rattle.tl_base.specs.declared.place.Settings.{Settings}
 use Rattle.tl_manager.specs.declared.request.ManagerRequest.{ManagerRequest}
 use Rattle.tl_manager.specs.declared.request.Request.TheVariants as request_of
-use Rattle.tl_run.specs.Bytes.{home_of}
-use Rattle.tl_run.specs.Journal.{is_post}
+use Rattle.tl_journal.specs.Bytes.{home_of}
+use Rattle.tl_journal.specs.Journal.{is_post}
 use Rattle.tl_world.specs.Seen.{HasEnded}
 use Rattle.tl_world.proofs.Ended.{has_ended, never_gone, never_homeless}
 use Rattle.tl_world.proofs.Serving.{is_within}

@@ -1,5 +1,5 @@
 use Rattle.std.proofs.Common.{◌≡◌, ◌+◌, ◌<◌, length, slice_index_or, ap, ◌∙◌, arith}
-use Rattle.tl_run.proofs.StoreEvents.{length_next}
+use Rattle.tl_journal.proofs.StoreEvents.{length_next}
 use Rattle.tl_world.specs.Stands.{SlotValue}
 use Rattle.tl_world.specs.declared.request.Served.{Served}
 use Rattle.tl_world.specs.Turns.{due_by}

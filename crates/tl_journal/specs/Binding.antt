@@ -1,0 +1,80 @@
+-- What the reader of scripts lets through: statements and opening rows that fit their tables, keys and rows of a bounded size.
+use Rattle.std.specs.Prelude.{◌≡◌, ℕ, ◌<◌, ◌≤◌, ◌^◌, zero, suc, Bool, true, false, List, [], ◌∷◌, length, Option, Some, None}
+use Rattle.std.specs.List.{AllByRecursion}
+use Rattle.tl_base.specs.declared.place.Settings.{Settings}
+use Rattle.tl_values.specs.declared.value.Value.{Value}
+use Rattle.tl_schema.specs.declared.catalog.Catalog.{Catalog}
+use Rattle.tl_schema.specs.declared.catalog.Column.{Column}
+use Rattle.tl_schema.specs.declared.catalog.Table.{Table}
+use Rattle.tl_schema.specs.Row.{row_spelling}
+use Rattle.tl_versions.specs.Cell.{AreChanges}
+use Rattle.tl_algebra.specs.declared.edit.Edit.{Edit}
+use Rattle.tl_algebra.specs.declared.edit.Edit.TheVariants.{Insert, Update, Delete}
+use Rattle.tl_algebra.specs.declared.query.Join.{Join}
+use Rattle.tl_write.specs.declared.write.Write.{Write}
+use Rattle.tl_write.specs.Change.{number_of}
+use Rattle.tl_isolation.specs.declared.bound.Bound.{Bound}
+use Rattle.tl_isolation.specs.declared.bound.Bound.TheVariants as bound
+use Rattle.tl_isolation.specs.declared.script.Script.{Script}
+use Rattle.tl_isolation.specs.declared.script.Session.{Session}
+use Rattle.tl_isolation.specs.Script.{setup_of}
+use Rattle.tl_isolation.specs.Tables.{OpensFitting, Suits, opening_writes, table_of}
+use Rattle.tl_plan.specs.Law.{ComparesValues, HasKey}
+use Rattle.tl_protocol.specs.Move.{is_empty}
+use Rattle.tl_protocol.specs.Store.{Key}
+use Rattle.tl_journal.specs.Served.{is_record_key}
+
+-- whether the column at this place refuses NULL
+abbrev pub refuses_null : List Column → ℕ → Bool
+refuses_null [] place = false
+refuses_null (column ∷ columns) zero = column.not_null
+refuses_null (column ∷ columns) (suc place) = refuses_null columns place
+
+-- the primary key is of one column or more, which refuse NULL
+pub record IsKeyed (table : Table) : Type 0 where
+  pub columns : HasKey table
+  pub some : is_empty table.key ≡ false
+  pub not_null : AllByRecursion (λ place. refuses_null table.columns place ≡ true) table.key
+
+-- a key of a record, short enough for a log cell
+pub record KeyFits (key : Key) : Type 0 where
+  pub is_record : is_record_key key ≡ true
+  pub short : length key < 2 ^ 16
+
+-- a row has at most 1,024 bytes
+abbrev pub IsBrief : Option (List Value) → Type 0
+IsBrief None = Unit {0}
+IsBrief (Some row) = length (row_spelling row) ≤ 1024
+
+-- a write that can be stored
+pub record WriteFits (w : Write) : Type 0 where
+  pub key : KeyFits w.key
+  pub row : AreChanges w.row
+  pub brief : IsBrief w.row
+
+-- the literals of WHERE are values
+abbrev pub EditCompares : Edit → Type 0
+EditCompares (Insert number rows) = Unit {0}
+EditCompares (Update number sets where_) = ComparesValues where_
+EditCompares (Delete number where_) = ComparesValues where_
+
+-- a table has so few columns that its rows and record keys have a spelling
+pub record TableFits (table : Table) : Type 0 where
+  pub columns : length table.columns < 256
+  pub key : length table.key ≤ 32
+
+-- a statement that binding lets through
+abbrev pub StatementFits : Catalog → Bound → Type 0
+StatementFits catalog (bound.Select query) =
+    ComparesValues query.filter × AllByRecursion (λ (join : Join). IsKeyed (table_of catalog join.table)) query.from
+StatementFits catalog (bound.Change edit) =
+    Suits catalog edit × IsKeyed (table_of catalog (number_of edit)) × EditCompares edit × TableFits (table_of catalog (number_of edit))
+StatementFits catalog (bound.Recover gone) = (1 ≤ gone) × (gone ≤ 16)
+StatementFits catalog statement = Unit {0}
+
+-- a script that the reader lets through
+pub record IsBound (script : Script) (settings : Settings) : Type 0 where
+  pub nodes : AllByRecursion (λ (s : Session). (1 ≤ s.node) × (s.node ≤ 16)) script.sessions
+  pub statements : AllByRecursion (λ (s : Session). AllByRecursion (StatementFits script.catalog) s.statements) script.sessions
+  pub opening : OpensFitting (setup_of script settings)
+  pub writes : AllByRecursion WriteFits (opening_writes script.catalog script.rows)

@@ -1,0 +1,17 @@
+pub mod Ask
+pub mod Bytes
+pub mod Reads
+pub mod Node
+pub mod Asks
+pub mod Takes
+pub mod Says
+pub mod Memory
+pub mod Journal
+pub mod Served
+pub mod Binding
+pub mod Schedule
+pub mod Run
+pub mod Strange
+pub mod Law
+pub mod Outcome
+pub mod Promises

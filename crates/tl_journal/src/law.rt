@@ -1,0 +1,26 @@
+ghost use Rattle.tl_journal.specs.Law.{EachIsMended, FirstCommits, NothingStrange, OneHistory, OwnRowsStandUnderKeys, SpeaksScript, SpeaksWhole, StoreStands};
+ghost use Rattle.tl_journal.specs.Promises.{AnswersAll, NeverConflicts};
+
+use tl_isolation::histories_keep_their_promises;
+
+/// Every journal of a script: whatever the turns of the nodes' requests, whichever nodes vanish between any two and
+/// whoever recovers them.
+pub fn every_journal_is_one_history()
+    ensures history { OneHistory }
+    ensures speaks { SpeaksScript }
+    ensures whole { SpeaksWhole }
+    ensures stands { StoreStands }
+    ensures mended { EachIsMended }
+    ensures first { FirstCommits }
+    ensures heeded { NothingStrange }
+    ensures own { OwnRowsStandUnderKeys }
+{}
+
+/// What a run that has come to its end promises besides being one history.
+pub fn runs_are_complete()
+    ensures answers { AnswersAll }
+    ensures alone { NeverConflicts }
+{
+    every_journal_is_one_history();
+    histories_keep_their_promises();
+}
