@@ -1,22 +1,14 @@
 //! The program `tell`: it reads a session script from standard input, runs it, and prints all replies and the final
-//! tables. What it promises stands at `run_tell`.
+//! tables. What it promises stands at `tl_tell::run_tell`.
 #![tactic(auto)]
 
-mod command;
-mod ended;
-mod input;
-mod law;
 mod line;
-mod run;
-#[cfg(test)]
-mod tests;
 
-use crate::ended::{Ended, Reason};
-use crate::run::run_tell;
 use std::process::ExitCode;
 use std::{env, io};
 use tl_base::{Items, Text};
 use tl_io::{InputSource, NoGate, OutputSink};
+use tl_tell::{Ended, Reason, run_tell};
 
 /// The words of the command line, without the program's name, or why there are none. A word that isn't UTF-8 is
 /// refused as any other word is, at place 1.
@@ -42,7 +34,7 @@ fn reason_of_words(kind: io::ErrorKind) -> Reason {
     }
 }
 
-fn main(rt: HostRuntime) -> io::Result<ExitCode> {
+fn main(rt: HostRuntime) -> ExitCode {
     let ended = match words(&rt) {
         Ok(words) => {
             let mut input = InputSource::new(rt.reader());
@@ -57,6 +49,6 @@ fn main(rt: HostRuntime) -> io::Result<ExitCode> {
         }
         Err(reason) => Ended::without_run(rt.alloc(), reason),
     };
-    line::report(&rt, ended.reason)?;
-    Ok(ExitCode::from(ended.status))
+    line::report(&rt, ended.reason);
+    ExitCode::from(ended.status)
 }

@@ -1,7 +1,0 @@
-use Rattle.tell.proofs.Runs.{one_history}
-use Rattle.tell.proofs.law.every_run_is_one_history.Goals as goal
-
-pub returns : goal.returns
-returns c =
-    one_history c.every_journal_is_one_history.ensures.history c.every_journal_is_one_history.ensures.speaks c.every_journal_is_one_history.ensures.whole
-    c.every_journal_is_one_history.ensures.stands c.runs_are_complete.ensures.answers c.runs_are_complete.ensures.alone
