@@ -1,5 +1,5 @@
 -- What the entries so far tell, and that it stays told.
-use Rattle.std.proofs.Common.{◌≡◌, ℕ, ◌<◌, ◌==◌, Bool, true, List, [], ◌∷◌, ◌++◌, Option, Some, None, if◌then◌else◌, refl, ap, ◌∙◌}
+use Rattle.std.proofs.Common.{◌≡◌, ℕ, ◌<◌, ◌==◌, Bool, true, List, [], ◌∷◌, ◌++◌, Option, Some, None, if◌then◌else◌, refl, sym, ap, ◌∙◌}
 use Rattle.std.specs.Prelude.{Contains, slice_get}
 use Rattle.std.proofs.lemmas.Bool.{eq-eqb}
 use Rattle.std.proofs.lemmas.List.Elements.{Contains-append_left}
@@ -10,12 +10,13 @@ use Rattle.tl_isolation.specs.declared.entry.Entry.{Entry}
 use Rattle.tl_isolation.specs.declared.entry.Entry.TheVariants as entry
 use Rattle.tl_isolation.specs.declared.state.Commit.{Commit}
 use Rattle.tl_isolation.specs.declared.state.Transaction.{Transaction}
-use Rattle.tl_isolation.specs.Promises.{begun_with, first_of, seen_by}
+use Rattle.tl_isolation.specs.Promises.{begun_at, begun_with, first_of, last_begun, seen_by}
 
 -- what the past tells of a held transaction
 pub record Known (past : List Entry) (tid node first : ℕ) (rival : Option ℕ) (unanswered : Option Answer) : Type 0 where
   pub seen : seen_by tid past ≡ Some first
-  pub began : Contains past (entry.Began node tid first)
+  -- it is the last one that began at its node
+  pub last : last_begun node past ≡ Some tid
   -- it clashed with its rival
   pub clashed : (r : ℕ) → rival ≡ Some r → (at : ℕ) × Contains past (entry.Clash tid r at)
   -- a statement is not answered by a conflict
@@ -24,9 +25,9 @@ pub record Known (past : List Entry) (tid node first : ℕ) (rival : Option ℕ)
 abbrev pub IsKnown : List Entry → Transaction → Type 0
 IsKnown past t = Known past t.tid t.node t.first t.rival t.unanswered
 
--- a transaction of the node has clashed with this rival
+-- the node's last transaction has clashed with this rival
 abbrev pub HasClashed : List Entry → ℕ → ℕ → Type 0
-HasClashed past node rival = (tid first at : ℕ) × Contains past (entry.Began node tid first) × Contains past (entry.Clash tid rival at)
+HasClashed past node rival = (tid at : ℕ) × (last_begun node past ≡ Some tid) × Contains past (entry.Clash tid rival at)
 
 -- where a conflict is still to be answered
 abbrev pub IsReal : List Entry → ℕ → Option Answer → Type 0
@@ -64,17 +65,35 @@ seen_begun node tid first past n =
     ∙ ap (λ (o : Option ℕ). first_of o (first_of (if tid == tid then Some first else None) None)) n
     ∙ ap (λ (b : Bool). first_of (if b then Some first else None) None) (eq-eqb tid tid refl)
 
-pub known_more : (past more : List Entry) (t : Transaction) → IsKnown past t → IsKnown (past ++ more) t
-known_more past more t k = record {
-  seen = seen_more t.tid t.first past more k.seen;
-  began = Contains-append_left past more (entry.Began t.node t.tid t.first) k.began;
-  clashed = λ r e. let c = k.clashed r e in (c.0, Contains-append_left past more (entry.Clash t.tid r c.0) c.1);
+-- an entry more is the last one that begins a transaction of the node, or it begins none
+last_more : (node : ℕ) (past : List Entry) (e : Entry) → last_begun node (past ++ e ∷ []) ≡ first_of (begun_at node e) (last_begun node past)
+last_more node [] e = alone (begun_at node e)
+  where
+    alone : (o : Option ℕ) → first_of None o ≡ first_of o None
+    alone None = refl
+    alone (Some tid) = refl
+last_more node (x ∷ xs) e =
+    ap (λ (o : Option ℕ). first_of o (begun_at node x)) (last_more node xs e) ∙ sym (first_first (begun_at node e) (last_begun node xs) (begun_at node x))
+
+last_stays : (node tid : ℕ) (past : List Entry) (e : Entry) → begun_at node e ≡ None → last_begun node past ≡ Some tid → last_begun node (past ++ e ∷ []) ≡ Some tid
+last_stays node tid past e none last = last_more node past e ∙ ap (λ (o : Option ℕ). first_of o (last_begun node past)) none ∙ last
+
+pub last_begins : (node tid first : ℕ) (past : List Entry) → last_begun node (past ++ entry.Began node tid first ∷ []) ≡ Some tid
+last_begins node tid first past =
+    last_more node past (entry.Began node tid first)
+    ∙ ap (λ (b : Bool). first_of (if b then Some tid else None) (last_begun node past)) (eq-eqb node node refl)
+
+pub known_more : (past : List Entry) (e : Entry) (t : Transaction) → begun_at t.node e ≡ None → IsKnown past t → IsKnown (past ++ e ∷ []) t
+known_more past e t none k = record {
+  seen = seen_more t.tid t.first past (e ∷ []) k.seen;
+  last = last_stays t.node t.tid past e none k.last;
+  clashed = λ r i. let c = k.clashed r i in (c.0, Contains-append_left past (e ∷ []) (entry.Clash t.tid r c.0) c.1);
   unlike = k.unlike;
 }
 
-pub clashed_more : (past more : List Entry) (node rival : ℕ) → HasClashed past node rival → HasClashed (past ++ more) node rival
-clashed_more past more node rival (tid, first, at, b, c) =
-    (tid, first, at, Contains-append_left past more (entry.Began node tid first) b, Contains-append_left past more (entry.Clash tid rival at) c)
+pub clashed_more : (past : List Entry) (e : Entry) (node rival : ℕ) → begun_at node e ≡ None → HasClashed past node rival → HasClashed (past ++ e ∷ []) node rival
+clashed_more past e node rival none (tid, at, last, c) =
+    (tid, at, last_stays node tid past e none last, Contains-append_left past (e ∷ []) (entry.Clash tid rival at) c)
 
 pub apart_more : (past more : List Entry) (commits : List Commit) → AreApart past commits → AreApart (past ++ more) commits
 apart_more past more commits h i j earlier later key e f less w x =

@@ -46,11 +46,21 @@ ClashIsReal = (setup : Setup) (past later : List Entry) (tid rival at : ℕ) →
     → (t : Transaction) × (w : Write) × (held_as tid (state_after setup past).held ≡ Some t) × (slice_get t.own at ≡ Some w)
     × ((rival == tid) ≡ false) × IsOutside (state_after setup past) t rival w.key
 
--- a conflict is answered only where a transaction of the node has clashed with this rival before
+-- the transaction that this entry begins at the node
+abbrev pub begun_at : ℕ → Entry → Option ℕ
+begun_at node (entry.Began n tid first) = if n == node then Some tid else None
+begun_at node e = None
+
+-- the node's last transaction so far
+abbrev pub last_begun : ℕ → List Entry → Option ℕ
+last_begun node [] = None
+last_begun node (e ∷ es) = first_of (last_begun node es) (begun_at node e)
+
+-- a conflict is answered only where the node's last transaction has clashed with this rival
 abbrev pub ConflictIsReal : Type 0
 ConflictIsReal = (setup : Setup) (past later : List Entry) (node statement rival : ℕ)
     → IsHistory setup (past ++ entry.Answered node statement (answer.Conflict rival) ∷ later)
-    → (tid first at : ℕ) × Contains past (entry.Began node tid first) × Contains past (entry.Clash tid rival at)
+    → (tid at : ℕ) × (last_begun node past ≡ Some tid) × Contains past (entry.Clash tid rival at)
 
 -- a transaction ends once: it isn't committed and undone, nor either of them twice
 abbrev pub ends : ℕ → Entry → Option ℕ

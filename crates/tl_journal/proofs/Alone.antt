@@ -384,7 +384,7 @@ never_conflicts histories speaks conflicts script settings events run few node s
     let told : Entry = entry.Answered node statement (answer.Conflict rival) in
     let at = split entries told c in
     let clash = conflicts setup at.0 at.1 node statement rival (subst (IsHistory setup) at.2 history) in
-    let clashed : Contains entries (entry.Clash clash.0 rival clash.2) =
-    subst (λ (es : List Entry). Contains es (entry.Clash clash.0 rival clash.2)) (sym at.2) (Contains-append_left at.0 (told ∷ at.1) (entry.Clash clash.0 rival clash.2) clash.4) in
+    let clashed : Contains entries (entry.Clash clash.0 rival clash.1) =
+    subst (λ (es : List Entry). Contains es (entry.Clash clash.0 rival clash.1)) (sym at.2) (Contains-append_left at.0 (told ∷ at.1) (entry.Clash clash.0 rival clash.1) clash.3) in
     never_clashes (number_of script.sessions) script.catalog (opening_state setup) entries (opens_alone (number_of script.sessions) setup) history
-    (begun_by script settings [] entries few (speaks script settings events run)) clash.0 rival clash.2 clashed
+    (begun_by script settings [] entries few (speaks script settings events run)) clash.0 rival clash.1 clashed

@@ -46,13 +46,13 @@ abbrev pub in_range : ℕ → ℕ → Key → Key → Key → Key → Bool
 in_range at shard from first before k =
     is_below k before && (((at == shard) && not (is_below k from)) || (nat_lt shard at && not (is_below k first)))
 
--- a read will find the key's record
-abbrev pub reaches : ℕ → Read → Key → Bool
-reaches shards (Point key) k = same_key key k
-reaches shards (Range shard from first before) k = in_range (shard_of_key k shards) shard from first before k
+-- a read will find the key's record, which has this row
+abbrev pub reaches : ℕ → Read → Key → List Value → Bool
+reaches shards (Point key) k row = same_key key k
+reaches shards (Range shard from first before) k row = in_range (shard_of_key k shards) shard from first before k
 
-abbrev pub reach : ℕ → List Read → Key → Bool
-reach shards reads k = list_any (λ read. reaches shards read k) reads
+abbrev pub reach : ℕ → List Read → Key → List Value → Bool
+reach shards reads k row = list_any (λ read. reaches shards read k row) reads
 
 -- of a table: the reads that are left, and the rows that were found
 pub record Progress : Type 0 where
@@ -79,11 +79,11 @@ Has tables key row = ◌≡◌ {A = Option (List Value)} (finmap.get tables key)
 -- The rows that were found of a table, of which these are all reads, are rows of all tables that have what was read; and a
 -- row of such tables that one of the reads reaches, and none of those that are left, was found.
 pub record IsGathered (shards : ℕ) (catalog : Catalog) (facts : List Fact) (number : ℕ) (all : List Read) (x : Progress) : Type 0 where
-  pub within : (k : Key) → reach shards x.left k ≡ true → is_in number k ≡ true
+  pub within : (k : Key) (row : List Value) → reach shards x.left k row ≡ true → is_in number k ≡ true
   pub sound : (tables : Tables) → AreHome catalog tables → Agrees tables facts
       → AllByRecursion (λ row. Has tables (record_key number (table_of catalog number) row) row) x.rows
   pub complete : (tables : Tables) → AreHome catalog tables → Agrees tables facts → (k : Key) (row : List Value) → Has tables k row
-      → reach shards all k ≡ true → reach shards x.left k ≡ false → Among row x.rows × (record_key number (table_of catalog number) row ≡ k)
+      → reach shards all k row ≡ true → reach shards x.left k row ≡ false → Among row x.rows × (record_key number (table_of catalog number) row ≡ k)
 
 -- so of each table of the statement
 abbrev pub AreGathered : ℕ → Catalog → List Fact → List ℕ → List (List Read) → List Progress → Type 0
@@ -180,7 +180,7 @@ all_read settings catalog statement t facts reads h e =
 
 module _ (shards : ℕ) (catalog : Catalog) where
   -- a table of which nothing is read
-  none_yet : (number : ℕ) (all : List Read) → ((k : Key) → reach shards all k ≡ true → is_in number k ≡ true) → IsGathered shards catalog [] number all (ahead all)
+  none_yet : (number : ℕ) (all : List Read) → ((k : Key) (row : List Value) → reach shards all k row ≡ true → is_in number k ≡ true) → IsGathered shards catalog [] number all (ahead all)
   none_yet number all h = record {
     within = h;
     sound = λ tables home agrees. tt;
@@ -188,8 +188,8 @@ module _ (shards : ℕ) (catalog : Catalog) where
   }
 
   -- a read of a table reaches records of that table
-  range_within : (number : ℕ) (low high k : Key) → reaches shards (range_of number low high) k ≡ true → is_in number k ≡ true
-  range_within number low high k h =
+  range_within : (number : ℕ) (low high k : Key) (row : List Value) → reaches shards (range_of number low high) k row ≡ true → is_in number k ≡ true
+  range_within number low high k row h =
       between number low high k
       (on (is_below k (table_key number low)) (is_below k (table_key number high)) (shard_of_key k shards == 0) (nat_lt 0 (shard_of_key k shards)) h).0
       (on (is_below k (table_key number low)) (is_below k (table_key number high)) (shard_of_key k shards == 0) (nat_lt 0 (shard_of_key k shards)) h).1
@@ -202,17 +202,17 @@ module _ (shards : ℕ) (catalog : Catalog) where
       on a false x y h = absurd cc
       on false true x y h = (refl, refl)
 
-  point_within : (number : ℕ) (key k : Key) → reaches shards (Point (table_key number key)) k ≡ true → is_in number k ≡ true
-  point_within number key k h = subst (λ (l : Key). is_in number l ≡ true) (tie (table_key number key) k h) (in_table number key)
+  point_within : (number : ℕ) (key k : Key) (row : List Value) → reaches shards (Point (table_key number key)) k row ≡ true → is_in number k ≡ true
+  point_within number key k row h = subst (λ (l : Key). is_in number l ≡ true) (tie (table_key number key) k h) (in_table number key)
 
-  read_within : (number : ℕ) (a : Access) (k : Key) → reaches shards (read_of number a) k ≡ true → is_in number k ≡ true
-  read_within number (access.Point key) k h = point_within number key k h
-  read_within number (access.KeyRange low high) k h = range_within number low high k h
-  read_within number (access.IndexRange index low high) k h = range_within number (1 ∷ []) (4 ∷ []) k h
-  read_within number access.Whole k h = range_within number (1 ∷ []) (4 ∷ []) k h
+  read_within : (number : ℕ) (a : Access) (k : Key) (row : List Value) → reaches shards (read_of number a) k row ≡ true → is_in number k ≡ true
+  read_within number (access.Point key) k row h = point_within number key k row h
+  read_within number (access.KeyRange low high) k row h = range_within number low high k row h
+  read_within number (access.IndexRange index low high) k row h = range_within number (1 ∷ []) (4 ∷ []) k row h
+  read_within number access.Whole k row h = range_within number (1 ∷ []) (4 ∷ []) k row h
 
-  one_within : (number : ℕ) (a : Access) (k : Key) → reach shards (read_of number a ∷ []) k ≡ true → is_in number k ≡ true
-  one_within number a k h = read_within number a k (on (reaches shards (read_of number a) k) h)
+  one_within : (number : ℕ) (a : Access) (k : Key) (row : List Value) → reach shards (read_of number a ∷ []) k row ≡ true → is_in number k ≡ true
+  one_within number a k row h = read_within number a k row (on (reaches shards (read_of number a) k row) h)
     where
       on : (b : Bool) → (b || false) ≡ true → b ≡ true
       on true h = refl
@@ -227,17 +227,17 @@ module _ (shards : ℕ) (catalog : Catalog) where
     each_begins numbers (offset + length (table_of catalog number).columns) where_,
   )
 
-  points_within : (number : ℕ) (table : Table) (rows : List (List Value)) (k : Key) → reach shards (map (λ row. Point (record_key number table row)) rows) k ≡ true
-      → is_in number k ≡ true
-  points_within number table [] k h = absurd cc
-  points_within number table (row ∷ rows) k h =
-      ⊎_elim (λ e. point_within number (key_bytes (key_values table row)) k e) (λ e. points_within number table rows k e)
-      (or_cases (same_key (record_key number table row) k) (reach shards (map (λ row. Point (record_key number table row)) rows) k) h)
+  points_within : (number : ℕ) (table : Table) (rows : List (List Value)) (k : Key) (found : List Value)
+      → reach shards (map (λ row. Point (record_key number table row)) rows) k found ≡ true → is_in number k ≡ true
+  points_within number table [] k found h = absurd cc
+  points_within number table (row ∷ rows) k found h =
+      ⊎_elim (λ e. point_within number (key_bytes (key_values table row)) k found e) (λ e. points_within number table rows k found e)
+      (or_cases (same_key (record_key number table row) k) (reach shards (map (λ row. Point (record_key number table row)) rows) k found) h)
 
-  edit_within : (edit : Edit) (k : Key) → reach shards (edit_reads catalog edit) k ≡ true → is_in (number_of edit) k ≡ true
-  edit_within (Insert number rows) k h = points_within number (table_of catalog number) (filter (is_looked_up (table_of catalog number)) rows) k h
-  edit_within (Update number sets where_) k h = one_within number (access_of (table_of catalog number) 0 where_) k h
-  edit_within (Delete number where_) k h = one_within number (access_of (table_of catalog number) 0 where_) k h
+  edit_within : (edit : Edit) (k : Key) (row : List Value) → reach shards (edit_reads catalog edit) k row ≡ true → is_in (number_of edit) k ≡ true
+  edit_within (Insert number rows) k row h = points_within number (table_of catalog number) (filter (is_looked_up (table_of catalog number)) rows) k row h
+  edit_within (Update number sets where_) k row h = one_within number (access_of (table_of catalog number) 0 where_) k row h
+  edit_within (Delete number where_) k row h = one_within number (access_of (table_of catalog number) 0 where_) k row h
 
   query_begins : (numbers : List ℕ) (where_ : Option Condition)
       → AreGathered shards catalog [] numbers (reads_of numbers (accesses_of (map (table_of catalog) numbers) 0 where_))
@@ -278,10 +278,10 @@ Has_fact tables fact = Holds (finmap.get tables) fact
 
 -- what one read brought: a fact of what was looked at, rows, and what is left of the read
 record Brings (shards : ℕ) (read : Read) (fact : Fact) (rest : List Read) (rows : List (List Value)) : Type 0 where
-  less : (k : Key) → reach shards rest k ≡ true → reaches shards read k ≡ true
-  sound : (tables : Tables) → Has_fact tables fact → AllByRecursion (λ row. (k : Key) × (reaches shards read k ≡ true) × Has tables k row) rows
-  complete : (tables : Tables) → Has_fact tables fact → (k : Key) (row : List Value) → Has tables k row → reaches shards read k ≡ true
-      → reach shards rest k ≡ false → Among row rows
+  less : (k : Key) (row : List Value) → reach shards rest k row ≡ true → reaches shards read k row ≡ true
+  sound : (tables : Tables) → Has_fact tables fact → AllByRecursion (λ row. (k : Key) × (reaches shards read k row ≡ true) × Has tables k row) rows
+  complete : (tables : Tables) → Has_fact tables fact → (k : Key) (row : List Value) → Has tables k row → reaches shards read k row ≡ true
+      → reach shards rest k row ≡ false → Among row rows
 
 -- a row that stands in the table of this number stands under its own key there
 pub own_key : (catalog : Catalog) (tables : Tables) (number : ℕ) (k : Key) (row : List Value) → AreHome catalog tables → Has tables k row → is_in number k ≡ true
@@ -303,34 +303,35 @@ module _ (shards : ℕ) (catalog : Catalog) (facts : List Fact) (fact : Fact) wh
   }
 
   module _ (read : Read) (left rest : List Read) (rows more : List (List Value)) (b : Brings shards read fact rest more) where
-    joined : (k : Key) → reach shards (rest ++ left) k ≡ (reach shards rest k || reach shards left k)
-    joined k = list_any-append (λ r. reaches shards r k) rest left
+    joined : (k : Key) (row : List Value) → reach shards (rest ++ left) k row ≡ (reach shards rest k row || reach shards left k row)
+    joined k row = list_any-append (λ r. reaches shards r k row) rest left
 
     reads_more : (number : ℕ) (all : List Read) → IsGathered shards catalog facts number all (record { left = read ∷ left; rows = rows })
         → IsGathered shards catalog (fact ∷ facts) number all (record { left = rest ++ left; rows = rows ++ more })
     reads_more number all h = record {
-      within = λ k e.
-          h.within k
-          (⊎_elim (λ i. or_left (reaches shards read k) (reach shards left k) (b.less k i)) (λ i. or_right (reaches shards read k) (reach shards left k) i)
-          (or_cases (reach shards rest k) (reach shards left k) (sym (joined k) ∙ e)));
+      within = λ k row e.
+          h.within k row
+          (⊎_elim (λ i. or_left (reaches shards read k row) (reach shards left k row) (b.less k row i))
+          (λ i. or_right (reaches shards read k row) (reach shards left k row) i)
+          (or_cases (reach shards rest k row) (reach shards left k row) (sym (joined k row) ∙ e)));
       sound = λ tables home agrees.
           all_append (λ row. Has tables (record_key number (table_of catalog number) row) row) rows more (h.sound tables home agrees.1)
-          (weaker (λ row. (k : Key) × (reaches shards read k ≡ true) × Has tables k row) (λ row. Has tables (record_key number (table_of catalog number) row) row)
-          (λ row i. subst (λ (k : Key). Has tables k row) (sym (own_key catalog tables number i.0 row home i.2 (reached i.0 i.1))) i.2) more
+          (weaker (λ row. (k : Key) × (reaches shards read k row ≡ true) × Has tables k row) (λ row. Has tables (record_key number (table_of catalog number) row) row)
+          (λ row i. subst (λ (k : Key). Has tables k row) (sym (own_key catalog tables number i.0 row home i.2 (reached i.0 row i.1))) i.2) more
           (b.sound tables agrees.0));
       complete = λ tables home agrees k row has of_all missed.
-          let parts = or_parts (reach shards rest k) (reach shards left k) (sym (joined k) ∙ missed) in
-          elim (reaches shards read k) as (λ c. reaches shards read k ≡ c → Among row (rows ++ more) × (record_key number (table_of catalog number) row ≡ k)) [
+          let parts = or_parts (reach shards rest k row) (reach shards left k row) (sym (joined k row) ∙ missed) in
+          elim (reaches shards read k row) as (λ c. reaches shards read k row ≡ c → Among row (rows ++ more) × (record_key number (table_of catalog number) row ≡ k)) [
             | true ↦ λ e.
-                (among_right row rows more (b.complete tables agrees.0 k row has e parts.0), own_key catalog tables number k row home has (reached k e))
+                (among_right row rows more (b.complete tables agrees.0 k row has e parts.0), own_key catalog tables number k row home has (reached k row e))
             | false ↦ λ e.
-                let old = h.complete tables home agrees.1 k row has of_all (or_from (reaches shards read k) (reach shards left k) e parts.1) in
+                let old = h.complete tables home agrees.1 k row has of_all (or_from (reaches shards read k row) (reach shards left k row) e parts.1) in
                 (among_left row rows more old.0, old.1)
           ] refl;
     }
       where
-        reached : (k : Key) → reaches shards read k ≡ true → is_in number k ≡ true
-        reached k i = h.within k (or_left (reaches shards read k) (reach shards left k) i)
+        reached : (k : Key) (row : List Value) → reaches shards read k row ≡ true → is_in number k ≡ true
+        reached k row i = h.within k row (or_left (reaches shards read k row) (reach shards left k row) i)
 
     -- the others stand as they were
     others_more : (numbers : List ℕ) (alls : List (List Read)) (xs : List Progress) → AreGathered shards catalog facts numbers alls xs
@@ -377,13 +378,13 @@ module _ (shards : ℕ) (w : World) (snapshot : TidSet) (key : Key) where
   its_row = row_shown snapshot (w.cells key).versions
 
   load_sound : (tables : Tables) (o : Option (List Value)) → its_row ≡ o → finmap.get tables key ≡ its_row
-      → AllByRecursion (λ row. (k : Key) × (reaches shards (Point key) k ≡ true) × Has tables k row) (option_to_list o)
+      → AllByRecursion (λ row. (k : Key) × (reaches shards (Point key) k row ≡ true) × Has tables k row) (option_to_list o)
   load_sound tables None e h = tt
   load_sound tables (Some row) e h = ((key, same_itself key, h ∙ e), tt)
 
   load_brings : Brings shards (Point key) looked_up [] (option_to_list its_row)
   load_brings = record {
-    less = λ k e. absurd cc;
+    less = λ k row e. absurd cc;
     sound = λ tables has. load_sound tables its_row refl (has key (same_itself key));
     complete = λ tables has k row is reached missed.
         option_has its_row row (ap (λ (l : Key). row_shown snapshot (w.cells l).versions) (tie key k reached) ∙ sym (has k reached) ∙ is);
@@ -424,8 +425,8 @@ module _ (settings : Settings) (w : World) (snapshot : TidSet) (shard : ℕ) (fr
   abbrev shown : Key → Option (List Value)
   shown k = row_shown snapshot (w.cells k).versions
 
-  within_reached : (k : Key) → IsWithin settings shard from before k → reaches shards its_read k ≡ true
-  within_reached k h =
+  within_reached : (k : Key) (row : List Value) → IsWithin settings shard from before k → reaches shards its_read k row ≡ true
+  within_reached k row h =
       on (is_below k before) (shard_of_key k shards == shard) (is_below k from) (nat_lt shard (shard_of_key k shards) && not (is_below k first))
       h.below (eq-eqb (shard_of_key k shards) shard h.at) h.from_on
     where
@@ -440,21 +441,21 @@ module _ (settings : Settings) (w : World) (snapshot : TidSet) (shard : ℕ) (fr
       on (Some x) xs = refl
 
   page_sound : (tables : Tables) (fs : List Found) → AllByRecursion IsCell fs → ((k : Key) → is_found k fs ≡ true → finmap.get tables k ≡ shown k)
-      → AllByRecursion (λ row. (k : Key) × (reaches shards its_read k ≡ true) × Has tables k row) (rows_found snapshot fs)
+      → AllByRecursion (λ row. (k : Key) × (reaches shards its_read k row ≡ true) × Has tables k row) (rows_found snapshot fs)
   page_sound tables [] h has = tt
   page_sound tables (f ∷ fs) h has =
-      subst (AllByRecursion (λ row. (k : Key) × (reaches shards its_read k ≡ true) × Has tables k row)) (sym (rows_of f fs))
-      (all_append (λ row. (k : Key) × (reaches shards its_read k ≡ true) × Has tables k row) (option_to_list (row_shown snapshot f.versions)) (rows_found snapshot fs)
+      subst (AllByRecursion (λ row. (k : Key) × (reaches shards its_read k row ≡ true) × Has tables k row)) (sym (rows_of f fs))
+      (all_append (λ row. (k : Key) × (reaches shards its_read k row ≡ true) × Has tables k row) (option_to_list (row_shown snapshot f.versions)) (rows_found snapshot fs)
       (one (row_shown snapshot f.versions) refl)
       (page_sound tables fs h.1 (λ k e. has k (or_right (same_key f.key k) (is_found k fs) e))))
     where
       one : (o : Option (List Value)) → row_shown snapshot f.versions ≡ o
-          → AllByRecursion (λ row. (k : Key) × (reaches shards its_read k ≡ true) × Has tables k row) (option_to_list o)
+          → AllByRecursion (λ row. (k : Key) × (reaches shards its_read k row ≡ true) × Has tables k row) (option_to_list o)
       one None e = tt
       one (Some row) e = (
         (
           f.key,
-          within_reached f.key h.0.0,
+          within_reached f.key row h.0.0,
           has f.key (or_left (same_key f.key f.key) (is_found f.key fs) (same_itself f.key)) ∙ ap (row_shown snapshot) (sym h.0.1) ∙ e,
         ),
         tt,
@@ -471,9 +472,9 @@ module _ (settings : Settings) (w : World) (snapshot : TidSet) (shard : ℕ) (fr
       (or_cases (same_key f.key k) (is_found k fs) e))
 
   -- what is left of the range lies in it
-  rest_less : (found : List Found) (more : Bool) → are_rising from found ≡ true → (k : Key) → reach shards (range_left shards shard from first before more found) k ≡ true
-      → reaches shards its_read k ≡ true
-  rest_less found true rising k h =
+  rest_less : (found : List Found) (more : Bool) → are_rising from found ≡ true → (k : Key) (row : List Value)
+      → reach shards (range_left shards shard from first before more found) k row ≡ true → reaches shards its_read k row ≡ true
+  rest_less found true rising k row h =
       on (is_below k before) (shard_of_key k shards == shard) (is_below k (key_behind from found)) (is_below k from)
       (nat_lt shard (shard_of_key k shards) && not (is_below k first)) h
       (λ e. at_least from (key_behind from found) k (page_on from found rising) e)
@@ -488,8 +489,9 @@ module _ (settings : Settings) (w : World) (snapshot : TidSet) (shard : ℕ) (fr
           on_false true h = refl
           on_false false h = absurd cc
       on false a e f y h i = absurd cc
-  rest_less found false rising k h =
-      elim (nat_lt (shard + 1) shards) as (λ c. reach shards (if c then Range (shard + 1) first first before ∷ [] else []) k ≡ true → reaches shards its_read k ≡ true) [
+  rest_less found false rising k row h =
+      elim (nat_lt (shard + 1) shards) as
+      (λ c. reach shards (if c then Range (shard + 1) first first before ∷ [] else []) k row ≡ true → reaches shards its_read k row ≡ true) [
         | true ↦ λ e. on (is_below k before) (shard_of_key k shards) shard (is_below k first) (is_below k from) e
         | false ↦ λ e. absurd cc
       ] h
@@ -499,9 +501,9 @@ module _ (settings : Settings) (w : World) (snapshot : TidSet) (shard : ℕ) (fr
       on b at s x f h = grind (arith, nat_tests)
 
   -- a key that is reached is told of, or lies in what is left
-  covered : (found : List Found) (more : Bool) (k : Key) → 1 ≤ shards → reaches shards its_read k ≡ true
-      → reach shards (range_left shards shard from first before more found) k ≡ false → IsWithin settings shard from (page_end from before found more) k
-  covered found true k some r h = record { at = eqb-true (shard_of_key k shards) shard parts.0; from_on = parts.1; below = parts.2 }
+  covered : (found : List Found) (more : Bool) (k : Key) (row : List Value) → 1 ≤ shards → reaches shards its_read k row ≡ true
+      → reach shards (range_left shards shard from first before more found) k row ≡ false → IsWithin settings shard from (page_end from before found more) k
+  covered found true k row some r h = record { at = eqb-true (shard_of_key k shards) shard parts.0; from_on = parts.1; below = parts.2 }
     where
       on : (b a e f y : Bool) → (b && ((a && not f) || y)) ≡ true → ((b && ((a && not e) || y)) || false) ≡ false → (a ≡ true) × (f ≡ false) × (e ≡ true)
       on b a e f true r h = absurd (grind arith)
@@ -514,7 +516,7 @@ module _ (settings : Settings) (w : World) (snapshot : TidSet) (shard : ℕ) (fr
       parts =
           on (is_below k before) (shard_of_key k shards == shard) (is_below k (key_behind from found)) (is_below k from)
           (nat_lt shard (shard_of_key k shards) && not (is_below k first)) r h
-  covered found false k some r h = record { at = eqb-true (shard_of_key k shards) shard parts.0; from_on = parts.1; below = parts.2 }
+  covered found false k row some r h = record { at = eqb-true (shard_of_key k shards) shard parts.0; from_on = parts.1; below = parts.2 }
     where
       at_shard : shard_of_key k shards < shards
       at_shard = mod-lt (key_hash 0 k) some
@@ -524,7 +526,7 @@ module _ (settings : Settings) (w : World) (snapshot : TidSet) (shard : ℕ) (fr
           → ((at == s) ≡ true) × (f ≡ false) × (b ≡ true)
       on b at s count x f small r h = grind (arith, nat_tests)
 
-      seen : (c : Bool) → reach shards (if c then Range (shard + 1) first first before ∷ [] else []) k
+      seen : (c : Bool) → reach shards (if c then Range (shard + 1) first first before ∷ [] else []) k row
           ≡ list_any (λ c. c) (if c then in_range (shard_of_key k shards) (shard + 1) first first before k ∷ [] else [])
       seen true = refl
       seen false = refl
@@ -540,7 +542,7 @@ module _ (settings : Settings) (w : World) (snapshot : TidSet) (shard : ℕ) (fr
     less = rest_less found more page.rising;
     sound = λ tables has. page_sound tables found page.are (λ k e. has k (or_left (is_found k found) _ e));
     complete = λ tables has k row is reached missed.
-        let w_ = covered found more k some reached missed in
+        let w_ = covered found more k row some reached missed in
         let told : is_told shards shard from before more found k ≡ true = is_so found more k w_ in
         let here : shown k ≡ Some row = sym (has k told) ∙ is in
         elim (is_found k found) as (λ c. is_found k found ≡ c → Among row (rows_found snapshot found)) [

@@ -55,9 +55,9 @@ use Rattle.tl_journal.proofs.Records.{each_record, part_records}
 
 -- ---- a row that lies within an access is read
 
-range_reached : (shards number : ℕ) (low high bytes : Key) → is_below bytes low ≡ false → is_below bytes high ≡ true
-    → reaches shards (range_of number low high) (table_key number bytes) ≡ true
-range_reached shards number low high bytes p q =
+range_reached : (shards number : ℕ) (low high bytes : Key) (row : List Value) → is_below bytes low ≡ false → is_below bytes high ≡ true
+    → reaches shards (range_of number low high) (table_key number bytes) row ≡ true
+range_reached shards number low high bytes row p q =
     on (shard_of_key (table_key number bytes) shards) (is_below (table_key number bytes) (table_key number low)) (is_below (table_key number bytes) (table_key number high))
     (ap is_lt (compared_in number bytes low) ∙ p) (ap is_lt (compared_in number bytes high) ∙ q)
   where
@@ -65,14 +65,14 @@ range_reached shards number low high bytes p q =
     on zero f b p q = grind arith
     on (suc at) f b p q = grind arith
 
-covered_reached : (shards number : ℕ) (a : Access) (bytes : Key) → covers a bytes ≡ true → (is_below bytes (1 ∷ []) ≡ false) × (is_below bytes (4 ∷ []) ≡ true)
-    → reaches shards (read_of number a) (table_key number bytes) ≡ true
-covered_reached shards number (access.Point key) bytes c w = ap is_eq (compared_in number key bytes) ∙ c
-covered_reached shards number (access.KeyRange low high) bytes c w =
+covered_reached : (shards number : ℕ) (a : Access) (bytes : Key) (row : List Value) → covers a bytes row ≡ true
+    → (is_below bytes (1 ∷ []) ≡ false) × (is_below bytes (4 ∷ []) ≡ true) → reaches shards (read_of number a) (table_key number bytes) row ≡ true
+covered_reached shards number (access.Point key) bytes row c w = ap is_eq (compared_in number key bytes) ∙ c
+covered_reached shards number (access.KeyRange low high) bytes row c w =
     let parts = and_parts (not (is_below bytes low)) (is_below bytes high) c in
-    range_reached shards number low high bytes (not-true (is_below bytes low) parts.0) parts.1
-covered_reached shards number (access.IndexRange index low high) bytes c w = range_reached shards number (1 ∷ []) (4 ∷ []) bytes w.0 w.1
-covered_reached shards number access.Whole bytes c w = range_reached shards number (1 ∷ []) (4 ∷ []) bytes w.0 w.1
+    range_reached shards number low high bytes row (not-true (is_below bytes low) parts.0) parts.1
+covered_reached shards number (access.IndexRange index low high) bytes row c w = range_reached shards number (1 ∷ []) (4 ∷ []) bytes row w.0 w.1
+covered_reached shards number access.Whole bytes row c w = range_reached shards number (1 ∷ []) (4 ∷ []) bytes row w.0 w.1
 
 -- ---- the rows that were gathered, as tables
 
@@ -172,7 +172,7 @@ module _ (shards : ℕ) (catalog : Catalog) (facts : List Fact) (tables : Tables
         one None e = absurd (no_row row (sym (get_gathered k None e) ∙ h))
         one (Some x) e = stands k (Some x) e ∙ sym (get_gathered k (Some x) e) ∙ h
 
-    gathered_has : (k : Key) (row : List Value) → Has tables k row → reach shards all k ≡ true → Has gathered k row
+    gathered_has : (k : Key) (row : List Value) → Has tables k row → reach shards all k row ≡ true → Has gathered k row
     gathered_has k row h r =
         let c = g.complete tables home agrees k row h r refl in
         one (written k writes) refl (row_written number table tables rows k row c.0 c.1)
@@ -196,7 +196,7 @@ module _ (shards : ℕ) (catalog : Catalog) (facts : List Fact) (tables : Tables
         one (Some x) e = e
 
     -- and it sees each row that the reads reach
-    view_has : (k : Key) (row : List Value) → (Has tables k row → reach shards all k ≡ true) → Has whole k row → Has view k row
+    view_has : (k : Key) (row : List Value) → (Has tables k row → reach shards all k row ≡ true) → Has whole k row → Has view k row
     view_has k row r h = get_view k ∙ one (written k own) (sym (get_whole k) ∙ h)
       where
         one : (o : Option (Option (List Value))) → over o (finmap.get tables k) ≡ Some row → over o (finmap.get gathered k) ≡ Some row
@@ -206,14 +206,14 @@ module _ (shards : ℕ) (catalog : Catalog) (facts : List Fact) (tables : Tables
     module _ (keyed : IsKeyed table) where
       -- a row of the table that lies within the access of the one read
       access_reached : (a : Access) → all ≡ read_of number a ∷ [] → (k : Key) (row : List Value) → IsHome catalog k row → is_in number k ≡ true → is_covered table a row ≡ true
-          → reach shards all k ≡ true
+          → reach shards all k row ≡ true
       access_reached a e k row h i c =
           let same : record_key number table row ≡ k =
           ap (λ (m : ℕ). record_key m (table_of catalog m) row) (sym (home_number catalog number k row h i)) ∙ sym h.own_key in
-          subst (λ (reads : List Read). reach shards reads k ≡ true) (sym e)
-          (or_left (reaches shards (read_of number a) k) false
-          (subst (λ (l : Key). reaches shards (read_of number a) l ≡ true) same
-          (covered_reached shards number a (key_bytes (key_values table row)) c (key_within table row keyed (home_accepted catalog number k row h i)))))
+          subst (λ (reads : List Read). reach shards reads k row ≡ true) (sym e)
+          (or_left (reaches shards (read_of number a) k row) false
+          (subst (λ (l : Key). reaches shards (read_of number a) l row ≡ true) same
+          (covered_reached shards number a (key_bytes (key_values table row)) row c (key_within table row keyed (home_accepted catalog number k row h i)))))
 
       covered_seen : (a : Access) → all ≡ read_of number a ∷ [] → (k : Key) (row : List Value) → Has whole k row → is_in number k ≡ true → is_covered table a row ≡ true
           → Has view k row
@@ -349,28 +349,28 @@ both_all : {A : Type 0} (P Q : A → Type 0) (xs : List A) → AllByRecursion P 
 both_all P Q [] h i = tt
 both_all P Q (x ∷ xs) h i = ((h.0, i.0), both_all P Q xs h.1 i.1)
 
-point_reached : (shards number : ℕ) (table : Table) (rows : List (List Value)) (row : List Value) → Among row rows → is_looked_up table row ≡ true
-    → reach shards (map (λ r. Point (record_key number table r)) (filter (is_looked_up table) rows)) (record_key number table row) ≡ true
-point_reached shards number table [] row h e = absurd h
-point_reached shards number table (r ∷ rows) row (inl same) e = one (is_looked_up table r) (ap (is_looked_up table) same ∙ e)
+point_reached : (shards number : ℕ) (table : Table) (rows : List (List Value)) (row found : List Value) → Among row rows → is_looked_up table row ≡ true
+    → reach shards (map (λ r. Point (record_key number table r)) (filter (is_looked_up table) rows)) (record_key number table row) found ≡ true
+point_reached shards number table [] row found h e = absurd h
+point_reached shards number table (r ∷ rows) row found (inl same) e = one (is_looked_up table r) (ap (is_looked_up table) same ∙ e)
   where
     rest : List (List Value)
     rest = filter (is_looked_up table) rows
 
-    one : (b : Bool) → b ≡ true → reach shards (map (λ x. Point (record_key number table x)) (cond b (r ∷ rest) rest)) (record_key number table row) ≡ true
+    one : (b : Bool) → b ≡ true → reach shards (map (λ x. Point (record_key number table x)) (cond b (r ∷ rest) rest)) (record_key number table row) found ≡ true
     one true i =
-        or_left (same_key (record_key number table r) (record_key number table row)) (reach shards (map (λ x. Point (record_key number table x)) rest) (record_key number table row))
+        or_left (same_key (record_key number table r) (record_key number table row)) (reach shards (map (λ x. Point (record_key number table x)) rest) (record_key number table row) found)
         (ap (λ x. same_key (record_key number table x) (record_key number table row)) same ∙ same_itself (record_key number table row))
     one false i = absurd cc
-point_reached shards number table (r ∷ rows) row (inr h) e = one (is_looked_up table r) (point_reached shards number table rows row h e)
+point_reached shards number table (r ∷ rows) row found (inr h) e = one (is_looked_up table r) (point_reached shards number table rows row found h e)
   where
     rest : List (List Value)
     rest = filter (is_looked_up table) rows
 
-    one : (b : Bool) → reach shards (map (λ x. Point (record_key number table x)) rest) (record_key number table row) ≡ true
-        → reach shards (map (λ x. Point (record_key number table x)) (cond b (r ∷ rest) rest)) (record_key number table row) ≡ true
+    one : (b : Bool) → reach shards (map (λ x. Point (record_key number table x)) rest) (record_key number table row) found ≡ true
+        → reach shards (map (λ x. Point (record_key number table x)) (cond b (r ∷ rest) rest)) (record_key number table row) found ≡ true
     one true i =
-        or_right (same_key (record_key number table r) (record_key number table row)) (reach shards (map (λ x. Point (record_key number table x)) rest) (record_key number table row)) i
+        or_right (same_key (record_key number table r) (record_key number table row)) (reach shards (map (λ x. Point (record_key number table x)) rest) (record_key number table row) found) i
     one false i = i
 
 module _ (shards : ℕ) (catalog : Catalog) (facts : List Fact) (tables : Tables) (home : AreHome catalog tables) (agrees : Agrees tables facts) (own : List Write)
@@ -386,7 +386,7 @@ module _ (shards : ℕ) (catalog : Catalog) (facts : List Fact) (tables : Tables
       (λ row h found has.
       view_has shards catalog facts tables home agrees own own_home number (edit_reads catalog (Insert number new)) rows g (record_key number table row) found
       (λ stands.
-      point_reached shards number table new row h.0
+      point_reached shards number table new row found h.0
       (key_looked_up catalog number row found keyed h.1 (home (record_key number table row) found stands) (in_table number (key_bytes (key_values table row))))) has)
       new (both_all (λ row. Among row new) (FitsTable table) new (each_among new) suits)
   sees_all (Update number sets where_) rows suits keyed compares g = (

@@ -146,9 +146,9 @@ between : (low high : Bool) → low ≡ false → high ≡ true → (not low && 
 between low high e f = rw (e, f) refl
 
 -- a key whose first value meets these tests lies between their bounds
-pub within : (v : Value) (xs : List Value) (t : ColumnTest) (tests : List ColumnTest) → IsValue v → AllByRecursion (λ (u : ColumnTest). IsValue u.value) (t ∷ tests) → AllByRecursion (Meets v) (t ∷ tests) →
-    covers (access.KeyRange (low_bound (t ∷ tests)) (high_bound (t ∷ tests))) (value_key v ++ key_bytes xs) ≡ true
-within v xs t tests f g m =
+pub within : (v : Value) (xs row : List Value) (t : ColumnTest) (tests : List ColumnTest) → IsValue v → AllByRecursion (λ (u : ColumnTest). IsValue u.value) (t ∷ tests) → AllByRecursion (Meets v) (t ∷ tests) →
+    covers (access.KeyRange (low_bound (t ∷ tests)) (high_bound (t ∷ tests))) (value_key v ++ key_bytes xs) row ≡ true
+within v xs row t tests f g m =
     between _ _
     (low_of_all v xs f (t ∷ tests) (1 ∷ []) g m (from_kinds v (key_bytes xs) (first_here tests t v m)))
     (high_of_all v xs f (t ∷ tests) (4 ∷ []) g m (below_kinds v (key_bytes xs)))

@@ -87,21 +87,21 @@ value_fits [] column f = tt
 value_fits (x ∷ row) zero f = f.0
 value_fits (x ∷ row) (suc column) f = value_fits row column f.1
 
-within_range : (v : Value) (xs : List Value) (tests : List ColumnTest) → IsValue v → AllByRecursion (λ (t : ColumnTest). IsValue t.value) tests → AllByRecursion (Meets v) tests →
-    covers (range_by tests) (key_bytes (v ∷ xs)) ≡ true
-within_range v xs [] f g m = refl
-within_range v xs (t ∷ tests) f g m = within v xs t tests f g m
+within_range : (v : Value) (xs row : List Value) (tests : List ColumnTest) → IsValue v → AllByRecursion (λ (t : ColumnTest). IsValue t.value) tests → AllByRecursion (Meets v) tests →
+    covers (range_by tests) (key_bytes (v ∷ xs)) row ≡ true
+within_range v xs row [] f g m = refl
+within_range v xs row (t ∷ tests) f g m = within v xs row t tests f g m
 
 module _ (where_ : Option Condition) (front row back : List Value) (through : lets_through where_ (front ++ row ++ back) ≡ true) (compares : ComparesValues where_) (fits : AreValues row) where
-  by_range : (columns : List ℕ) → AllByRecursion (λ column. column < length row) columns → covers (range_by (first_tests (length front) columns where_)) (key_bytes (map (value_at row) columns)) ≡ true
+  by_range : (columns : List ℕ) → AllByRecursion (λ column. column < length row) columns → covers (range_by (first_tests (length front) columns where_)) (key_bytes (map (value_at row) columns)) row ≡ true
   by_range [] h = refl
   by_range (column ∷ columns) h =
-      within_range (value_at row column) (map (value_at row) columns) (tests_of (length front + column) where_)
+      within_range (value_at row column) (map (value_at row) columns) row (tests_of (length front + column) where_)
       (value_fits row column fits) (compares (length front + column)) (column_meets where_ front row back through column h.0)
 
   by_access : (columns : List ℕ) (o : Option (List Value)) → AllByRecursion (λ column. column < length row) columns →
       each (λ column. equal_to (tests_of (length front + column) where_)) columns ≡ o →
-      covers (access_by o (first_tests (length front) columns where_)) (key_bytes (map (value_at row) columns)) ≡ true
+      covers (access_by o (first_tests (length front) columns where_)) (key_bytes (map (value_at row) columns)) row ≡ true
   by_access columns (Some values) h e =
       subst (λ vs. is_eq (slice_cmp nat_cmp (key_bytes values) (key_bytes vs)) ≡ true) (sym (each_equal where_ front row back through columns values h e))
       (ap is_eq (tied_itself nat_list_cmp_total (key_bytes values)))

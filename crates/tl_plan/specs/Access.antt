@@ -132,9 +132,9 @@ abbrev pub accesses_of : List Table → ℕ → Option Condition → List Access
 accesses_of [] offset where_ = []
 accesses_of (table ∷ tables) offset where_ = access_of table offset where_ ∷ accesses_of tables (offset + length table.columns) where_
 
--- whether a record with these bytes of its primary key lies within the access
-abbrev pub covers : Access → List ℕ → Bool
-covers (access.Point key) bytes = is_eq (slice_cmp nat_cmp key bytes)
-covers (access.KeyRange low high) bytes = not (is_below bytes low) && is_below bytes high
-covers (access.IndexRange index low high) bytes = true
-covers access.Whole bytes = true
+-- whether a record with these bytes of its primary key, and this row, lies within the access
+abbrev pub covers : Access → List ℕ → List Value → Bool
+covers (access.Point key) bytes row = is_eq (slice_cmp nat_cmp key bytes)
+covers (access.KeyRange low high) bytes row = not (is_below bytes low) && is_below bytes high
+covers (access.IndexRange index low high) bytes row = true
+covers access.Whole bytes row = true

@@ -28,7 +28,7 @@ abbrev pub ComparesValues : Option Condition → Type 0
 ComparesValues where_ = (place : ℕ) → AllByRecursion (λ (t : ColumnTest). IsValue t.value) (tests_of place where_)
 
 abbrev pub is_covered : Table → Access → List Value → Bool
-is_covered table access row = covers access (key_bytes (key_values table row))
+is_covered table access row = covers access (key_bytes (key_values table row)) row
 
 -- a row that WHERE lets through, whatever stands before it and behind, lies within the access
 abbrev pub PassingIsCovered : Type 0

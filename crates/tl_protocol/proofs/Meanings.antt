@@ -13,6 +13,7 @@ use Rattle.std.proofs.lemmas.List.Sorted.{IsPermutation-refl}
 use Rattle.tl_values.specs.declared.value.Value.{Value}
 use Rattle.tl_values.specs.Key.{key_bytes}
 use Rattle.tl_schema.specs.declared.access.Access.{Access}
+use Rattle.tl_schema.specs.declared.access.Access.TheVariants as access
 use Rattle.tl_schema.specs.declared.catalog.Catalog.{Catalog}
 use Rattle.tl_schema.specs.Record.{key_values, record_key}
 use Rattle.tl_algebra.specs.declared.condition.Condition.{Condition}
@@ -208,13 +209,20 @@ pub record Updating (catalog : Catalog) : Type 0 where
   pub compares : ComparesValues where_
   pub suits : Suits catalog (Update number sets where_)
 
+-- no access looks at more than the key as yet
+any_row : (a : Access) (bytes : Key) (x y : Row) → covers a bytes x ≡ covers a bytes y
+any_row (access.Point key) bytes x y = refl
+any_row (access.KeyRange low high) bytes x y = refl
+any_row (access.IndexRange index low high) bytes x y = refl
+any_row access.Whole bytes x y = refl
+
 module _ (catalog : Catalog) (u : Updating catalog) where
   abbrev pub edit_of : Edit
   edit_of = Update u.number u.sets u.where_
 
   -- the records that it reads
   abbrev pub update_looks : Key → Bool
-  update_looks k = is_in u.number k && covers u.access (drop 2 k)
+  update_looks k = is_in u.number k && covers u.access (drop 2 k) []
 
   abbrev deeds_by : (Row → Option Row) → (Row → Bool) → (Key → Bool) → List (Key × Row) → List Write → Result Effect ChangeFault
   deeds_by changed takes is_there records own =
@@ -233,10 +241,11 @@ module _ (catalog : Catalog) (u : Updating catalog) where
       let same : u.number ≡ h.number = eqb-true u.number h.number (and_left (u.number == h.number) true (ap (is_in u.number) (sym h.own_key) ∙ inside)) in
       let fits = subst (λ (m : ℕ). FitsTable (table_of catalog m) row) (sym same) h.fits in
       let own : k ≡ record_key u.number (table_of catalog u.number) row = h.own_key ∙ ap (λ (m : ℕ). record_key m (table_of catalog m) row) (sym same) in
-      let within : covers (access_of (table_of catalog u.number) 0 u.where_) (key_bytes (key_values (table_of catalog u.number) row)) ≡ true =
+      let within : covers (access_of (table_of catalog u.number) 0 u.where_) (key_bytes (key_values (table_of catalog u.number) row)) row ≡ true =
       passing (table_of catalog u.number) u.where_ [] row [] u.keyed u.compares fits (ap (lets_through u.where_) (append-nil row) ∙ through) in
-      and_from (is_in u.number k) (covers u.access (drop 2 k)) inside
-      (ap (λ (q : Key). covers u.access (drop 2 q)) own ∙ ap (λ (x : Access). covers x (key_bytes (key_values (table_of catalog u.number) row))) (sym u.access_so) ∙ within)
+      and_from (is_in u.number k) (covers u.access (drop 2 k) []) inside
+      (any_row u.access (drop 2 k) [] row ∙ ap (λ (q : Key). covers u.access (drop 2 q) row) own
+      ∙ ap (λ (x : Access). covers x (key_bytes (key_values (table_of catalog u.number) row)) row) (sym u.access_so) ∙ within)
 
   module _ (keys : List Key) (rows : Key → Option Row) (none : (k : Key) → is_named k keys ≡ false → rows k ≡ None) (own : List Write) where
     abbrev read_tables : Tables
