@@ -489,6 +489,7 @@ module _ (known : TidSet → Type 0) (settings : Settings) (log : List Call) (p 
         answers = (
           ap (λ b. Told (cond b told.Ended told.NotActive)) (tid_among d x.tid [] (active_after log) (v.active.tids d at_m ∙ ap tids_in here)),
           λ i y there e. ap (λ k. record p { active = put k None p.active }) (sym (one_node d x here i y there e)),
+          λ none. absurd (none d x here refl),
         );
         here = record {
           copy = copy-push log c ∙ v.copy;

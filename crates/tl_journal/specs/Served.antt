@@ -123,6 +123,7 @@ Answers settings p m (asked.Range low high) heard after =
     (heard ≡ Told reply.Ranged) × (after ≡ record p { numbers = numbered (low - 1) (Ready m) p.numbers })
 Answers settings p m (asked.End tid) heard after =
     (heard ≡ Told reply.Ended) × ((n : ℕ) (x : Active) → p.active n ≡ Some x → x.tid ≡ tid → after ≡ record p { active = put n None p.active })
+    × (((n : ℕ) (x : Active) → p.active n ≡ Some x → x.tid ≡ tid → ⊥) → after ≡ p)
 Answers settings p m (asked.Orphans node) heard after =
     (((x : Active) × (p.active node ≡ Some x) × (heard ≡ Told (reply.Orphaned (x.tid ∷ []))))
     ⊎ ((p.active node ≡ None) × (heard ≡ Told (reply.Orphaned [])))) × (after ≡ p)
