@@ -34,13 +34,14 @@ NeverOverlap = (setup : Setup) (entries : List Entry) → IsHistory setup entrie
     → is_written key earlier.writes ≡ true → is_written key later.writes ≡ true
     → (first : ℕ) × (seen_by later.tid entries ≡ Some first) × (i < first)
 
--- the rival has written the record, and the transaction doesn't see it: it committed after the snapshot, or is about to commit
+-- the rival has written the record, and the transaction doesn't see it: it committed after the snapshot, or has tried to commit
+-- and hasn't ended
 abbrev pub IsOutside : SiState → Transaction → ℕ → List ℕ → Type 0
 IsOutside state t rival key =
     ((i : ℕ) × (c : Commit) × (slice_get state.commits i ≡ Some c) × (t.first ≤ i) × (c.tid ≡ rival) × (is_written key c.writes ≡ true))
     ⊎ ((other : Transaction) × (held_as rival state.held ≡ Some other) × (other.tried ≡ true) × (is_written key other.own ≡ true))
 
--- a transaction clashes only in a record of its own in which a version outside its snapshot stands
+-- a transaction clashes only in a record of its own, which a rival outside its snapshot has written
 abbrev pub ClashIsReal : Type 0
 ClashIsReal = (setup : Setup) (past later : List Entry) (tid rival at : ℕ) → IsHistory setup (past ++ entry.Clash tid rival at ∷ later)
     → (t : Transaction) × (w : Write) × (held_as tid (state_after setup past).held ≡ Some t) × (slice_get t.own at ≡ Some w)

@@ -132,7 +132,8 @@ abbrev pub accesses_of : List Table → ℕ → Option Condition → List Access
 accesses_of [] offset where_ = []
 accesses_of (table ∷ tables) offset where_ = access_of table offset where_ ∷ accesses_of tables (offset + length table.columns) where_
 
--- whether a record with these bytes of its primary key, and this row, lies within the access
+-- whether a record with these bytes of its primary key, and this row, lies within the access. An access by an index covers all
+-- until nodes keep indexes
 abbrev pub covers : Access → List ℕ → List Value → Bool
 covers (access.Point key) bytes row = is_eq (slice_cmp nat_cmp key bytes)
 covers (access.KeyRange low high) bytes row = not (is_below bytes low) && is_below bytes high
