@@ -1,18 +1,12 @@
 -- Which values a column takes, and which expressions and conditions are of the columns that they name.
-use Rattle.std.specs.Prelude.{ℕ, zero, suc, Bool, true, false, not, ◌&&◌, List, [], ◌∷◌, Option, Some, None}
-use Rattle.std.specs.List.{list_all, list_any}
+use Rattle.std.specs.Prelude.{ℕ, zero, suc, Bool, true, false, ◌&&◌, List, [], ◌∷◌}
+use Rattle.std.specs.List.{list_all}
 use Rattle.std.specs.Str.{is_utf8}
 use Rattle.tl_values.specs.declared.value.Kind.{Kind}
 use Rattle.tl_values.specs.declared.value.Kind.TheVariants as kind
 use Rattle.tl_values.specs.declared.value.Value.{Value}
 use Rattle.tl_values.specs.declared.value.Value.TheVariants as value
 use Rattle.tl_schema.specs.declared.catalog.Column.{Column}
-use Rattle.tl_algebra.specs.declared.condition.Condition.{Condition}
-use Rattle.tl_algebra.specs.declared.condition.Condition.TheOpen.{Condition-F}
-use Rattle.tl_algebra.specs.declared.condition.Condition.TheOpen as part
-use Rattle.tl_algebra.specs.declared.condition.Condition.TheFolds.{fold-Condition}
-use Rattle.tl_algebra.specs.declared.condition.Side.{Side}
-use Rattle.tl_algebra.specs.declared.condition.Side.TheVariants as side
 use Rattle.tl_algebra.specs.declared.expression.Expression.{Expression}
 use Rattle.tl_algebra.specs.declared.expression.Expression.TheOpen.{Expression-F}
 use Rattle.tl_algebra.specs.declared.expression.Expression.TheOpen as layer
@@ -53,17 +47,13 @@ has_column passes [] place = false
 has_column passes (column ∷ columns) zero = passes column.kind
 has_column passes (column ∷ columns) (suc place) = has_column passes columns place
 
--- one step of arithmetic or more
-abbrev pub has_step : {A : Type 0} → List A → Bool
-has_step [] = false
-has_step (step ∷ steps) = true
-
--- a column, a literal, or arithmetic, which takes numbers and gives one
+-- a column, a literal, or arithmetic of one step or more, which takes numbers and gives one
 abbrev pub kind_layer : List Column → Expression-F (Kind → Bool) → Kind → Bool
 kind_layer columns (layer.Place at) k = has_column (same_kind k) columns at
 kind_layer columns (layer.Literal v) k = is_of_kind k v && is_value v
-kind_layer columns (layer.Chain first rest) k =
-    same_kind k kind.Int && has_step rest && first kind.Int && list_all (λ (step : Step (Kind → Bool)). step.of kind.Int) rest
+kind_layer columns (layer.Chain first []) k = false
+kind_layer columns (layer.Chain first (step ∷ steps)) k =
+    same_kind k kind.Int && (first kind.Int && list_all (λ (s : Step (Kind → Bool)). s.of kind.Int) (step ∷ steps))
 
 -- whether the expression over these columns is of this kind
 unfoldable pub gives_kind : List Column → Expression → Kind → Bool
