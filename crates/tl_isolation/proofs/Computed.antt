@@ -1,6 +1,6 @@
 -- What an expression of a kind computes is of that kind, and a row whose columns are set to such values still fits.
 use Rattle.std.proofs.Common.{◌≡◌, ℕ, zero, suc, ◌^◌, pos, negsuc, Bool, true, false, List, [], ◌∷◌, Option, Some, None, map, refl, sym, ap, subst, ◌∙◌}
-use Rattle.std.specs.Prelude.{slice_set, if◌then◌else◌}
+use Rattle.std.specs.Prelude.{◌&&◌, slice_set, if◌then◌else◌}
 use Rattle.std.proofs.lemmas.Bool.{and_parts, and_from, ltb-true}
 use Rattle.std.proofs.lemmas.Str.{IsUtf8-from_is_utf8}
 use Rattle.tl_values.specs.declared.value.Kind.{Kind}
@@ -13,12 +13,16 @@ use Rattle.tl_schema.specs.declared.catalog.Column.{Column}
 use Rattle.tl_algebra.specs.declared.expression.Expression.{Expression, out-Expression}
 use Rattle.tl_algebra.specs.declared.expression.Expression.TheOpen.{Expression-F}
 use Rattle.tl_algebra.specs.declared.expression.Expression.TheOpen as layer
+use Rattle.tl_algebra.specs.declared.expression.Expression.TheVariants as expression
+use Rattle.tl_algebra.specs.declared.expression.Expression.TheVariants.{outs-Chain, outs-Literal, outs-Place}
 use Rattle.tl_algebra.specs.declared.expression.Expression.TheFolds.{fold_out-Expression, map-Expression}
 use Rattle.tl_algebra.specs.declared.expression.Operator.{Operator}
 use Rattle.tl_algebra.specs.declared.expression.Step.{Step}
+use Rattle.tl_algebra.specs.declared.edit.SetColumn.{SetColumn}
 use Rattle.tl_algebra.specs.Steps.{step_value}
 use Rattle.tl_algebra.specs.Value.{calculated, chained, figure, fits, stepped, value_layer, value_of}
 use Rattle.tl_isolation.specs.Kinds.{are_of_kinds, gives_kind, has_column, is_of_kind, is_value, kind_layer, same_kind}
+use Rattle.tl_isolation.specs.Tables.{sets_its_kind}
 use Rattle.tl_isolation.proofs.Lookups.{some_same}
 
 -- a value as programs have them, NULL or of this kind
@@ -85,6 +89,25 @@ kind_of_layer : (columns : List Column) (e : Expression) → gives_kind columns 
 unfolding gives_kind
 kind_of_layer columns e = fold_out-Expression (Kind → Bool) (kind_layer columns) e
 
+-- the kinds of a column, of a literal and of arithmetic
+pub kind_of_place : (columns : List Column) (at : ℕ) → gives_kind columns (expression.Place at) ≡ (λ k. has_column (same_kind k) columns at)
+kind_of_place columns at =
+    kind_of_layer columns (expression.Place at) ∙ ap (λ l. kind_layer columns (map-Expression Expression (Kind → Bool) (gives_kind columns) l)) (outs-Place at)
+
+pub kind_of_literal : (columns : List Column) (v : Value) → gives_kind columns (expression.Literal v) ≡ (λ k. is_of_kind k v && is_value v)
+kind_of_literal columns v =
+    kind_of_layer columns (expression.Literal v) ∙ ap (λ l. kind_layer columns (map-Expression Expression (Kind → Bool) (gives_kind columns) l)) (outs-Literal v)
+
+-- a step, with the kinds of what stands behind its sign
+abbrev pub step_kinds : List Column → Step Expression → Step (Kind → Bool)
+step_kinds columns step = record { by = step.by; of = gives_kind columns step.of }
+
+pub kind_of_chain : (columns : List Column) (first : Expression) (rest : List (Step Expression))
+    → gives_kind columns (expression.Chain first rest) ≡ kind_layer columns (layer.Chain (gives_kind columns first) (map (step_kinds columns) rest))
+kind_of_chain columns first rest =
+    kind_of_layer columns (expression.Chain first rest)
+    ∙ ap (λ l. kind_layer columns (map-Expression Expression (Kind → Bool) (gives_kind columns) l)) (outs-Chain first rest)
+
 value_of_layer : (row : List Value) (e : Expression) → value_of e row ≡ value_layer row (map-Expression Expression (Option Value) (λ e. value_of e row) (out-Expression e))
 unfolding value_of
 value_of_layer row e = fold_out-Expression (Option Value) (value_layer row) e
@@ -117,3 +140,15 @@ set_of_kinds passes (column ∷ columns) (x ∷ xs) zero v f h o =
 set_of_kinds passes (column ∷ columns) (x ∷ xs) (suc place) v f h o =
     let parts = and_parts (is_of_kind column.kind x) (are_of_kinds columns xs) o in
     and_from (is_of_kind column.kind x) (are_of_kinds columns (slice_set xs place v)) parts.0 (set_of_kinds passes columns xs place v f h parts.1)
+
+-- there is a kind that the column has
+pub some_kind : (passes : Kind → Bool) (columns : List Column) (place : ℕ) → has_column passes columns place ≡ true → (k : Kind) × (passes k ≡ true)
+some_kind passes [] place h = absurd cc
+some_kind passes (column ∷ columns) zero h = (column.kind, h)
+some_kind passes (column ∷ columns) (suc place) h = some_kind passes columns place h
+
+-- what SET computes from a row that fits is a value
+pub set_value : (columns : List Column) (set : SetColumn) (row : List Value) (v : Value) → AreValues row → are_of_kinds columns row ≡ true
+    → sets_its_kind columns set ≡ true → value_of set.value row ≡ Some v → IsValue v
+set_value columns set row v values kinds h e =
+    let some = some_kind (gives_kind columns set.value) columns set.column h in (computed columns row values kinds set.value some.0 v some.1 e).value
