@@ -10,6 +10,13 @@ use Rattle.tl_values.specs.declared.value.Value.TheVariants as value
 use Rattle.tl_values.specs.Key.{AreValues, IsValue}
 use Rattle.tl_values.specs.Value.{value_at}
 use Rattle.tl_schema.specs.declared.catalog.Column.{Column}
+use Rattle.tl_values.specs.declared.value.Comparison.{Comparison}
+use Rattle.tl_algebra.specs.declared.condition.Condition.{Condition, out-Condition}
+use Rattle.tl_algebra.specs.declared.condition.Condition.TheOpen.{Condition-F}
+use Rattle.tl_algebra.specs.declared.condition.Condition.TheFolds.{fold_out-Condition, map-Condition}
+use Rattle.tl_algebra.specs.declared.condition.Condition.TheVariants as condition
+use Rattle.tl_algebra.specs.declared.condition.Condition.TheVariants.{outs-Test}
+use Rattle.tl_algebra.specs.declared.condition.Side.{Side}
 use Rattle.tl_algebra.specs.declared.expression.Expression.{Expression, out-Expression}
 use Rattle.tl_algebra.specs.declared.expression.Expression.TheOpen.{Expression-F}
 use Rattle.tl_algebra.specs.declared.expression.Expression.TheOpen as layer
@@ -21,7 +28,7 @@ use Rattle.tl_algebra.specs.declared.expression.Step.{Step}
 use Rattle.tl_algebra.specs.declared.edit.SetColumn.{SetColumn}
 use Rattle.tl_algebra.specs.Steps.{step_value}
 use Rattle.tl_algebra.specs.Value.{calculated, chained, figure, fits, stepped, value_layer, value_of}
-use Rattle.tl_isolation.specs.Kinds.{are_of_kinds, gives_kind, has_column, is_of_kind, is_value, kind_layer, same_kind}
+use Rattle.tl_isolation.specs.Kinds.{are_alike, are_of_kinds, compares_alike, condition_layer, gives_kind, has_column, is_of_kind, is_value, kind_layer, same_kind}
 use Rattle.tl_isolation.specs.Tables.{sets_its_kind}
 use Rattle.tl_isolation.proofs.Lookups.{some_same}
 
@@ -34,7 +41,7 @@ null_is : (k : Kind) → IsOne k value.Null
 null_is k = record { value = tt; of = refl }
 
 -- a test tells a value
-value_is : (v : Value) → is_value v ≡ true → IsValue v
+pub value_is : (v : Value) → is_value v ≡ true → IsValue v
 value_is value.Null e = tt
 value_is (value.Bool b) e = tt
 value_is (value.Int (pos n)) e = record { sfits = ltb-true n (2 ^ 63) e }
@@ -152,3 +159,13 @@ pub set_value : (columns : List Column) (set : SetColumn) (row : List Value) (v 
     → sets_its_kind columns set ≡ true → value_of set.value row ≡ Some v → IsValue v
 set_value columns set row v values kinds h e =
     let some = some_kind (gives_kind columns set.value) columns set.column h in (computed columns row values kinds set.value some.0 v some.1 e).value
+
+-- what is compared is alike by the parts of a condition
+pub alike_of_layer : (columns : List Column) (c : Condition) → compares_alike columns c ≡ condition_layer columns (map-Condition Condition Bool (compares_alike columns) (out-Condition c))
+unfolding compares_alike
+alike_of_layer columns c = fold_out-Condition Bool (condition_layer columns) c
+
+pub alike_test : (columns : List Column) (left : Side) (by : Comparison) (right : Side) → compares_alike columns (condition.Test left by right) ≡ are_alike columns left right
+alike_test columns left by right =
+    alike_of_layer columns (condition.Test left by right)
+    ∙ ap (λ (l : Condition-F Condition). condition_layer columns (map-Condition Condition Bool (compares_alike columns) l)) (outs-Test left by right)

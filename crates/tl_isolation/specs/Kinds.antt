@@ -1,12 +1,18 @@
 -- Which values a column takes, and which expressions and conditions are of the columns that they name.
-use Rattle.std.specs.Prelude.{ℕ, zero, suc, Bool, true, false, ◌&&◌, List, [], ◌∷◌}
-use Rattle.std.specs.List.{list_all}
+use Rattle.std.specs.Prelude.{ℕ, zero, suc, Bool, true, false, ◌&&◌, List, [], ◌∷◌, Option, Some, None}
+use Rattle.std.specs.List.{list_all, list_any}
 use Rattle.std.specs.Str.{is_utf8}
 use Rattle.tl_values.specs.declared.value.Kind.{Kind}
 use Rattle.tl_values.specs.declared.value.Kind.TheVariants as kind
 use Rattle.tl_values.specs.declared.value.Value.{Value}
 use Rattle.tl_values.specs.declared.value.Value.TheVariants as value
 use Rattle.tl_schema.specs.declared.catalog.Column.{Column}
+use Rattle.tl_algebra.specs.declared.condition.Condition.{Condition}
+use Rattle.tl_algebra.specs.declared.condition.Condition.TheOpen.{Condition-F}
+use Rattle.tl_algebra.specs.declared.condition.Condition.TheOpen as part
+use Rattle.tl_algebra.specs.declared.condition.Condition.TheFolds.{fold-Condition}
+use Rattle.tl_algebra.specs.declared.condition.Side.{Side}
+use Rattle.tl_algebra.specs.declared.condition.Side.TheVariants as side
 use Rattle.tl_algebra.specs.declared.expression.Expression.{Expression}
 use Rattle.tl_algebra.specs.declared.expression.Expression.TheOpen.{Expression-F}
 use Rattle.tl_algebra.specs.declared.expression.Expression.TheOpen as layer
@@ -58,3 +64,32 @@ kind_layer columns (layer.Chain first (step ∷ steps)) k =
 -- whether the expression over these columns is of this kind
 unfoldable pub gives_kind : List Column → Expression → Kind → Bool
 gives_kind columns expression = fold-Expression (Kind → Bool) (kind_layer columns) expression
+
+-- a side of a comparison: a column of this kind, or a literal of it
+abbrev pub side_gives : List Column → Side → Kind → Bool
+side_gives columns (side.Place at) k = has_column (same_kind k) columns at
+side_gives columns (side.Literal v) k = is_of_kind k v && is_value v
+
+abbrev pub every_kind : List Kind
+every_kind = kind.Int ∷ kind.Text ∷ kind.Bool ∷ []
+
+-- both sides are of one kind
+abbrev pub are_alike : List Column → Side → Side → Bool
+are_alike columns left right = list_any (λ k. side_gives columns left k && side_gives columns right k) every_kind
+
+-- a condition, by whether its parts fit
+abbrev pub condition_layer : List Column → Condition-F Bool → Bool
+condition_layer columns (part.Test left by right) = are_alike columns left right
+condition_layer columns (part.IsNull of negated) = are_alike columns of of
+condition_layer columns (part.Not fits) = fits
+condition_layer columns (part.And each) = list_all (λ fits. fits) each
+condition_layer columns (part.Or each) = list_all (λ fits. fits) each
+
+-- whether a condition over these columns compares only what is of one kind
+unfoldable pub compares_alike : List Column → Condition → Bool
+compares_alike columns condition = fold-Condition Bool (condition_layer columns) condition
+
+-- an ON or a WHERE, where it is written, does
+abbrev pub condition_fits : List Column → Option Condition → Bool
+condition_fits columns None = true
+condition_fits columns (Some condition) = compares_alike columns condition

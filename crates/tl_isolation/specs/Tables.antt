@@ -18,7 +18,7 @@ use Rattle.tl_algebra.specs.declared.edit.SetColumn.{SetColumn}
 use Rattle.tl_write.specs.declared.write.Write.{Write}
 use Rattle.tl_write.specs.Own.{put_write}
 use Rattle.tl_write.specs.Tables.{Tables, records_in}
-use Rattle.tl_isolation.specs.Kinds.{are_of_kinds, gives_kind, has_column}
+use Rattle.tl_isolation.specs.Kinds.{are_of_kinds, condition_fits, gives_kind, has_column}
 
 abbrev pub no_table : Table
 no_table = record { name = []; columns = []; key = []; indexes = [] }
@@ -71,12 +71,12 @@ keeps_key table sets = not (list_any (λ (set : SetColumn). list_any (λ place. 
 abbrev pub sets_its_kind : List Column → SetColumn → Bool
 sets_its_kind columns set = has_column (gives_kind columns set.value) columns set.column
 
--- the change is one of this table, as every bound statement: its rows fit, and SET leaves the primary key and sets columns to
--- what is of their kinds
+-- the change is one of this table, as every bound statement: its rows fit, SET leaves the primary key and sets columns to what is
+-- of their kinds, and WHERE compares what is of one kind
 abbrev pub SuitsTable : Table → Edit → Type 0
 SuitsTable table (Insert number rows) = AllByRecursion (FitsTable table) rows
-SuitsTable table (Update number sets condition) = (keeps_key table sets ≡ true) × (list_all (sets_its_kind table.columns) sets ≡ true)
-SuitsTable table (Delete number condition) = Unit {0}
+SuitsTable table (Update number sets condition) = (keeps_key table sets ≡ true) × (list_all (sets_its_kind table.columns) sets ≡ true) × (condition_fits table.columns condition ≡ true)
+SuitsTable table (Delete number condition) = condition_fits table.columns condition ≡ true
 
 -- the change is of a table of the catalog
 pub record Suits (catalog : Catalog) (edit : Edit) : Type 0 where

@@ -1,6 +1,6 @@
 -- Statements on one table, account (id INT PRIMARY KEY, balance INT NOT NULL), with what they come to.
 use Rattle.std.proofs.Common.{◌≡◌, ℕ, ◌^◌, ℤ, pos, negsuc, Bool, true, false, List, [], ◌∷◌, Option, Some, None, refl, sym, ap, ◌∙◌, subst, arith}
-use Rattle.std.specs.Prelude.{◌==◌, ◌&&◌, option_and_then, slice_set, if◌then◌else◌}
+use Rattle.std.specs.Prelude.{◌==◌, ◌&&◌, ◌||◌, option_and_then, slice_set, if◌then◌else◌}
 use Rattle.std.specs.List.{AllByRecursion, cons_option}
 use Rattle.std.proofs.lemmas.Bool.{ltb-true}
 use Rattle.tl_values.specs.declared.value.Comparison.TheVariants as comparison
@@ -37,9 +37,9 @@ use Rattle.tl_algebra.specs.Value.{calculated, chained, figure, fits, value_laye
 use Rattle.tl_algebra.proofs.Chains.{value_of_chain}
 use Rattle.tl_plan.specs.Access.{ColumnTest, access_of, test_by, tests_of}
 use Rattle.tl_plan.specs.Law.{HasKey}
-use Rattle.tl_isolation.specs.Kinds.{gives_kind}
+use Rattle.tl_isolation.specs.Kinds.{condition_fits, gives_kind}
 use Rattle.tl_isolation.specs.Tables.{FitsTable, IsAccepted, OpensTable}
-use Rattle.tl_isolation.proofs.Computed.{kind_of_chain, kind_of_literal, kind_of_place}
+use Rattle.tl_isolation.proofs.Computed.{alike_test, kind_of_chain, kind_of_literal, kind_of_place}
 use Rattle.tl_protocol.specs.Store.{Key}
 use Rattle.tl_protocol.specs.Run.{Layout}
 use Rattle.tl_protocol.proofs.Frames.{some_same}
@@ -142,6 +142,11 @@ figured_kind sign n f =
 pub literal_kind : (n : ℕ) → fits (pos n) ≡ true → gives_kind account.columns (expression.Literal (number n)) kind.Int ≡ true
 literal_kind n f = ap (λ (g : Kind → Bool). g kind.Int) (kind_of_literal account.columns (number n)) ∙ f
 
+-- a column of an account is compared with a number that fits
+pub equals_alike : (n : ℕ) → fits (pos n) ≡ true → condition_fits account.columns (Some (equals 0 n)) ≡ true
+equals_alike n f =
+    alike_test account.columns (side.Place 0) comparison.Equal (side.Literal (number n)) ∙ ap (λ (b : Bool). b || (false || (false || false))) f
+
 -- an account of numbers that fit
 pub fits_account : (id balance : ℕ) → fits (pos id) ≡ true → fits (pos balance) ≡ true → FitsTable account (with_balance id balance)
 fits_account id balance e f = record { width = refl; values = (is_value (pos id) e, (is_value (pos balance) f, tt)); kinds = refl }
@@ -170,7 +175,7 @@ changing_one sign n k g f =
       access_so = access_equal k;
       keyed = has_key;
       compares = λ place. equal_compares k place (is_value (pos k) f);
-      suits = record { table = omega arith; change = (refl, ap (λ (b : Bool). b && true) (figured_kind sign n g)) };
+      suits = record { table = omega arith; change = (refl, ap (λ (b : Bool). b && true) (figured_kind sign n g), equals_alike k f) };
     }
 
 -- SET balance = n
@@ -188,7 +193,7 @@ setting_all n f =
       access_so = refl;
       keyed = has_key;
       compares = λ place. tt;
-      suits = record { table = omega arith; change = (refl, ap (λ (b : Bool). b && true) (literal_kind n f)) };
+      suits = record { table = omega arith; change = (refl, ap (λ (b : Bool). b && true) (literal_kind n f), refl) };
     }
 
 -- of one table, without WHERE
