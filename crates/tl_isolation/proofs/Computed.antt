@@ -60,16 +60,18 @@ kinds_same kind.Bool kind.Text e = absurd cc
 kinds_same kind.Bool kind.Bool e = refl
 
 -- the value in a column of a row is of the column's kind
-placed : (k : Kind) (columns : List Column) (row : List Value) (at : ℕ) → has_column (same_kind k) columns at ≡ true → AreValues row
-    → are_of_kinds columns row ≡ true → IsOne k (value_at row at)
-placed k [] row at h v o = absurd cc
-placed k (column ∷ columns) [] at h v o = absurd cc
-placed k (column ∷ columns) (x ∷ xs) zero h v o =
-    record {
-      value = v.0;
-      of = subst (λ (k : Kind). is_of_kind k x ≡ true) (sym (kinds_same k column.kind h)) (and_parts (is_of_kind column.kind x) (are_of_kinds columns xs) o).0;
-    }
-placed k (column ∷ columns) (x ∷ xs) (suc at) h v o = placed k columns xs at h v.1 (and_parts (is_of_kind column.kind x) (are_of_kinds columns xs) o).1
+placed : (k : Kind) (columns : List Column) (row : List Value) (at : ℕ) → has_column (same_kind k) columns at ≡ true → are_of_kinds columns row ≡ true
+    → is_of_kind k (value_at row at) ≡ true
+placed k [] row at h o = absurd cc
+placed k (column ∷ columns) [] at h o = absurd cc
+placed k (column ∷ columns) (x ∷ xs) zero h o =
+    subst (λ (k : Kind). is_of_kind k x ≡ true) (sym (kinds_same k column.kind h)) (and_parts (is_of_kind column.kind x) (are_of_kinds columns xs) o).0
+placed k (column ∷ columns) (x ∷ xs) (suc at) h o = placed k columns xs at h (and_parts (is_of_kind column.kind x) (are_of_kinds columns xs) o).1
+
+value_placed : (row : List Value) (at : ℕ) → AreValues row → IsValue (value_at row at)
+value_placed [] at h = tt
+value_placed (x ∷ xs) zero h = h.0
+value_placed (x ∷ xs) (suc at) h = value_placed xs at h.1
 
 -- what arithmetic gives is a number or NULL
 calculated_is : (a : Value) (by : Operator) (b v : Value) → calculated a by b ≡ Some v → IsOne kind.Int v
@@ -119,22 +121,34 @@ value_of_layer : (row : List Value) (e : Expression) → value_of e row ≡ valu
 unfolding value_of
 value_of_layer row e = fold_out-Expression (Option Value) (value_layer row) e
 
-module _ (columns : List Column) (row : List Value) (values : AreValues row) (kinds : are_of_kinds columns row ≡ true) where
-  by_layer : (l : Expression-F Expression) (k : Kind) (v : Value) → kind_layer columns (map-Expression Expression (Kind → Bool) (gives_kind columns) l) k ≡ true
-      → value_layer row (map-Expression Expression (Option Value) (λ e. value_of e row) l) ≡ Some v → IsOne k v
-  by_layer (layer.Place at) k v h e = subst (IsOne k) (some_same (value_at row at) v e) (placed k columns row at h values kinds)
-  by_layer (layer.Literal x) k v h e =
-      let parts = and_parts (is_of_kind k x) (is_value x) h in
-      subst (IsOne k) (some_same x v e) (record { value = value_is x parts.1; of = parts.0 })
-  by_layer (layer.Chain first []) k v h e = absurd cc
-  by_layer (layer.Chain first (step ∷ steps)) k v h e =
-      subst (λ k. IsOne k v) (sym (kinds_same k kind.Int (and_parts (same_kind k kind.Int) _ h).0))
-      (chain_is (value_of first row) (step_value row step) (map (step_value row) steps) v e)
+module _ (columns : List Column) (row : List Value) where
+  value_by : (l : Expression-F Expression) (k : Kind) (v : Value) → AreValues row → kind_layer columns (map-Expression Expression (Kind → Bool) (gives_kind columns) l) k ≡ true
+      → value_layer row (map-Expression Expression (Option Value) (λ e. value_of e row) l) ≡ Some v → IsValue v
+  value_by (layer.Place at) k v values h e = subst IsValue (some_same (value_at row at) v e) (value_placed row at values)
+  value_by (layer.Literal x) k v values h e = subst IsValue (some_same x v e) (value_is x (and_parts (is_of_kind k x) (is_value x) h).1)
+  value_by (layer.Chain first []) k v values h e = absurd cc
+  value_by (layer.Chain first (step ∷ steps)) k v values h e = (chain_is (value_of first row) (step_value row step) (map (step_value row) steps) v e).value
 
-  -- what an expression of this kind computes from a row that fits is NULL or of the kind
-  pub computed : (e : Expression) (k : Kind) (v : Value) → gives_kind columns e k ≡ true → value_of e row ≡ Some v → IsOne k v
-  computed e k v h i =
-      by_layer (out-Expression e) k v (ap (λ (f : Kind → Bool). f k) (sym (kind_of_layer columns e)) ∙ h) (sym (value_of_layer row e) ∙ i)
+  kind_by : (l : Expression-F Expression) (k : Kind) (v : Value) → are_of_kinds columns row ≡ true
+      → kind_layer columns (map-Expression Expression (Kind → Bool) (gives_kind columns) l) k ≡ true
+      → value_layer row (map-Expression Expression (Option Value) (λ e. value_of e row) l) ≡ Some v → is_of_kind k v ≡ true
+  kind_by (layer.Place at) k v kinds h e = subst (λ v. is_of_kind k v ≡ true) (some_same (value_at row at) v e) (placed k columns row at h kinds)
+  kind_by (layer.Literal x) k v kinds h e = subst (λ v. is_of_kind k v ≡ true) (some_same x v e) (and_parts (is_of_kind k x) (is_value x) h).0
+  kind_by (layer.Chain first []) k v kinds h e = absurd cc
+  kind_by (layer.Chain first (step ∷ steps)) k v kinds h e =
+      subst (λ k. is_of_kind k v ≡ true) (sym (kinds_same k kind.Int (and_parts (same_kind k kind.Int) _ h).0))
+      (chain_is (value_of first row) (step_value row step) (map (step_value row) steps) v e).of
+
+  -- what an expression of this kind computes from values is a value
+  pub value_computed : (e : Expression) (k : Kind) (v : Value) → AreValues row → gives_kind columns e k ≡ true → value_of e row ≡ Some v → IsValue v
+  value_computed e k v values h i =
+      value_by (out-Expression e) k v values (ap (λ (f : Kind → Bool). f k) (sym (kind_of_layer columns e)) ∙ h) (sym (value_of_layer row e) ∙ i)
+
+  -- and from a row whose values are of their columns' kinds it is NULL or of the kind
+  pub kind_computed : (e : Expression) (k : Kind) (v : Value) → are_of_kinds columns row ≡ true → gives_kind columns e k ≡ true → value_of e row ≡ Some v
+      → is_of_kind k v ≡ true
+  kind_computed e k v kinds h i =
+      kind_by (out-Expression e) k v kinds (ap (λ (f : Kind → Bool). f k) (sym (kind_of_layer columns e)) ∙ h) (sym (value_of_layer row e) ∙ i)
 
 -- a column set to a value of its kind
 pub set_of_kinds : (passes : Kind → Bool) (columns : List Column) (row : List Value) (place : ℕ) (v : Value)
@@ -149,16 +163,16 @@ set_of_kinds passes (column ∷ columns) (x ∷ xs) (suc place) v f h o =
     and_from (is_of_kind column.kind x) (are_of_kinds columns (slice_set xs place v)) parts.0 (set_of_kinds passes columns xs place v f h parts.1)
 
 -- there is a kind that the column has
-pub some_kind : (passes : Kind → Bool) (columns : List Column) (place : ℕ) → has_column passes columns place ≡ true → (k : Kind) × (passes k ≡ true)
+some_kind : (passes : Kind → Bool) (columns : List Column) (place : ℕ) → has_column passes columns place ≡ true → (k : Kind) × (passes k ≡ true)
 some_kind passes [] place h = absurd cc
 some_kind passes (column ∷ columns) zero h = (column.kind, h)
 some_kind passes (column ∷ columns) (suc place) h = some_kind passes columns place h
 
--- what SET computes from a row that fits is a value
-pub set_value : (columns : List Column) (set : SetColumn) (row : List Value) (v : Value) → AreValues row → are_of_kinds columns row ≡ true
-    → sets_its_kind columns set ≡ true → value_of set.value row ≡ Some v → IsValue v
-set_value columns set row v values kinds h e =
-    let some = some_kind (gives_kind columns set.value) columns set.column h in (computed columns row values kinds set.value some.0 v some.1 e).value
+-- what SET computes from values is a value
+pub set_value : (columns : List Column) (set : SetColumn) (row : List Value) (v : Value) → AreValues row → sets_its_kind columns set ≡ true
+    → value_of set.value row ≡ Some v → IsValue v
+set_value columns set row v values h e =
+    let some = some_kind (gives_kind columns set.value) columns set.column h in value_computed columns row set.value some.0 v values some.1 e
 
 -- what is compared is alike by the parts of a condition
 pub alike_of_layer : (columns : List Column) (c : Condition) → compares_alike columns c ≡ condition_layer columns (map-Condition Condition Bool (compares_alike columns) (out-Condition c))

@@ -34,7 +34,7 @@ use Rattle.tl_write.specs.Tables.{Tables, is_in, laid_over, laid_write, records_
 use Rattle.tl_isolation.specs.Meaning.{change_of}
 use Rattle.tl_isolation.specs.Kinds.{gives_kind}
 use Rattle.tl_isolation.specs.Tables.{AreHome, FitsTable, HasTable, IsAccepted, IsHome, OpensTable, Suits, opening_writes, sets_its_kind, table_of}
-use Rattle.tl_isolation.proofs.Computed.{computed, set_of_kinds, set_value}
+use Rattle.tl_isolation.proofs.Computed.{kind_computed, set_of_kinds, set_value}
 use Rattle.tl_isolation.proofs.Lookups.{all_filter, all_map, some_same}
 use Rattle.tl_protocol.proofs.Shown.{AreHomeWrites}
 
@@ -194,9 +194,9 @@ columns_fit table (s ∷ ss) old new row o g h e =
     one : (v : Value) → sets_its_kind table.columns s ≡ true → value_of s.value old ≡ Some v → FitsTable table (slice_set new s.column v)
     one v g i = record {
       width = length-set new s.column v ∙ h.width;
-      values = set_all IsValue new s.column v h.values (set_value table.columns s old v o.values o.kinds g i);
+      values = set_all IsValue new s.column v h.values (set_value table.columns s old v o.values g i);
       kinds = set_of_kinds (gives_kind table.columns s.value) table.columns new s.column v
-          (λ k j. (computed table.columns old o.values o.kinds s.value k v j i).of) g h.kinds;
+          (λ k j. kind_computed table.columns old s.value k v o.kinds j i) g h.kinds;
     }
 
 -- the row fits the table of this number, and the key is its own
