@@ -167,7 +167,7 @@ module _ (settings : Settings) (catalog : Catalog) (v : World) (n number : ℕ) 
       → Means catalog (bound.Change edit) t.own (tables_read reads) told → Says catalog v n number (bound.Change edit) t (tables_read reads) told
   say_change edit fits r e means = record {
     it = move.SayChange n number edit told (own_said catalog (bound.Change edit) t.own (tables_read reads)) t facts at r.takes
-        (subst (λ c. Suits c edit) (sym is_catalog) fits.0)
+        (subst (λ c. Suits c edit) (sym is_catalog) fits.suits)
         (λ tables home agrees.
         subst (λ c. Changes c edit tables t.own told (own_said catalog (bound.Change edit) t.own (tables_read reads))) (sym is_catalog)
         (change_means settings.shards catalog facts t.own edit (tables_read reads) told fits own_home

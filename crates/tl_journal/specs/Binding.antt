@@ -9,17 +9,18 @@ use Rattle.tl_schema.specs.declared.catalog.Table.{Table}
 use Rattle.tl_schema.specs.Row.{row_spelling}
 use Rattle.tl_versions.specs.Cell.{AreChanges}
 use Rattle.tl_algebra.specs.declared.edit.Edit.{Edit}
-use Rattle.tl_algebra.specs.declared.edit.Edit.TheVariants.{Insert, Update, Delete}
 use Rattle.tl_algebra.specs.declared.query.Join.{Join}
+use Rattle.tl_algebra.specs.declared.query.Query.{Query}
 use Rattle.tl_write.specs.declared.write.Write.{Write}
 use Rattle.tl_write.specs.Change.{number_of}
 use Rattle.tl_isolation.specs.declared.bound.Bound.{Bound}
 use Rattle.tl_isolation.specs.declared.bound.Bound.TheVariants as bound
 use Rattle.tl_isolation.specs.declared.script.Script.{Script}
 use Rattle.tl_isolation.specs.declared.script.Session.{Session}
+use Rattle.tl_isolation.specs.Queries.{SuitsQuery}
 use Rattle.tl_isolation.specs.Script.{setup_of}
 use Rattle.tl_isolation.specs.Tables.{OpensFitting, Suits, opening_writes, table_of}
-use Rattle.tl_plan.specs.Law.{ComparesValues, HasKey}
+use Rattle.tl_plan.specs.Law.{HasKey}
 use Rattle.tl_protocol.specs.Move.{is_empty}
 use Rattle.tl_protocol.specs.Store.{Key}
 use Rattle.tl_journal.specs.Served.{is_record_key}
@@ -52,28 +53,32 @@ pub record WriteFits (w : Write) : Type 0 where
   pub row : AreChanges w.row
   pub brief : IsBrief w.row
 
--- the literals of WHERE are values
-abbrev pub EditCompares : Edit → Type 0
-EditCompares (Insert number rows) = Unit {0}
-EditCompares (Update number sets where_) = ComparesValues where_
-EditCompares (Delete number where_) = ComparesValues where_
-
 -- a table has so few columns that its rows and record keys have a spelling
 pub record TableFits (table : Table) : Type 0 where
   pub columns : length table.columns < 256
   pub key : length table.key ≤ 32
 
+-- a query of tables with primary keys
+pub record QueryFits (catalog : Catalog) (query : Query) : Type 0 where
+  pub suits : SuitsQuery catalog query
+  pub keyed : AllByRecursion (λ (join : Join). IsKeyed (table_of catalog join.table)) query.from
+
+-- a change of a table with a primary key
+pub record EditFits (catalog : Catalog) (edit : Edit) : Type 0 where
+  pub suits : Suits catalog edit
+  pub keyed : IsKeyed (table_of catalog (number_of edit))
+  pub table : TableFits (table_of catalog (number_of edit))
+
 -- a statement that binding lets through
 abbrev pub StatementFits : Catalog → Bound → Type 0
-StatementFits catalog (bound.Select query) =
-    ComparesValues query.filter × AllByRecursion (λ (join : Join). IsKeyed (table_of catalog join.table)) query.from
-StatementFits catalog (bound.Change edit) =
-    Suits catalog edit × IsKeyed (table_of catalog (number_of edit)) × EditCompares edit × TableFits (table_of catalog (number_of edit))
+StatementFits catalog (bound.Select query) = QueryFits catalog query
+StatementFits catalog (bound.Change edit) = EditFits catalog edit
 StatementFits catalog (bound.Recover gone) = (1 ≤ gone) × (gone ≤ 16)
 StatementFits catalog statement = Unit {0}
 
 -- a script that the reader lets through
 pub record IsBound (script : Script) (settings : Settings) : Type 0 where
+  pub tables : length script.catalog.tables ≤ 64
   pub nodes : AllByRecursion (λ (s : Session). (1 ≤ s.node) × (s.node ≤ 16)) script.sessions
   pub statements : AllByRecursion (λ (s : Session). AllByRecursion (StatementFits script.catalog) s.statements) script.sessions
   pub opening : OpensFitting (setup_of script settings)

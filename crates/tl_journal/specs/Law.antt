@@ -48,7 +48,9 @@ use Rattle.tl_journal.specs.Strange.{is_strange}
 pub record IsRun (script : Script) (settings : Settings) (events : List Event) : Type 0 where
   pub bound : IsBound script settings
   pub shards : 1 ≤ settings.shards
+  pub few_shards : settings.shards ≤ 16
   pub managers : 1 ≤ settings.managers
+  pub few_managers : settings.managers ≤ 4
   pub few : length events < 2 ^ 32
   pub trace : IsTrace script settings events
 
