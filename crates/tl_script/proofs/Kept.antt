@@ -200,6 +200,7 @@ script_read (table ∷ lines) script e =
     let fit : PartsFit names.0 (0 + length lines) parts.0 = lines_fit names.0 2 0 lines no_parts parts.0 (none_fit names.0) parts.1 in
     subst (IsRead (table ∷ lines)) (ok_inside (script_with names.0 parts.0) script parts.2) (record {
       bound = λ settings. record {
+        tables = omega arith;
         nodes = fit.nodes;
         statements = fit.statements;
         opening = rows_fit names.0 parts.0.rows fit.rows;
