@@ -33,7 +33,7 @@ use Rattle.tl_algebra.specs.declared.query.Query.{Query}
 use Rattle.tl_algebra.specs.Group.{groups}
 use Rattle.tl_algebra.specs.Select.{before, each, first_of, line_of, lines_of, selected, with_keys}
 use Rattle.tl_algebra.specs.Truth.{is_true, lets_through, truth_layer, truth_of}
-use Rattle.tl_algebra.specs.Value.{calculated, chained, figure, fits, value_layer, value_of}
+use Rattle.tl_algebra.specs.Value.{calculated, chained, fits, value_layer, value_of}
 use Rattle.tl_algebra.proofs.Chains.{value_of_chain}
 use Rattle.tl_plan.specs.Access.{ColumnTest, access_of, test_by, tests_of}
 use Rattle.tl_plan.specs.Law.{HasKey}
@@ -42,7 +42,6 @@ use Rattle.tl_isolation.specs.Tables.{FitsTable, IsAccepted, OpensTable}
 use Rattle.tl_isolation.proofs.Computed.{alike_test, kind_of_chain, kind_of_literal, kind_of_place}
 use Rattle.tl_protocol.specs.Store.{Key}
 use Rattle.tl_protocol.specs.Run.{Layout}
-use Rattle.tl_protocol.proofs.Frames.{some_same}
 use Rattle.tl_protocol.proofs.Meanings.{Row, Selecting, Updating}
 
 abbrev pub account : Table

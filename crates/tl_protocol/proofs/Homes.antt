@@ -33,7 +33,7 @@ use Rattle.tl_write.specs.Own.{key_cmp, put_write, put_writes}
 use Rattle.tl_write.specs.Tables.{Tables, is_in, laid_over, laid_write, records_in}
 use Rattle.tl_isolation.specs.Meaning.{change_of}
 use Rattle.tl_isolation.specs.Kinds.{gives_kind}
-use Rattle.tl_isolation.specs.Tables.{AreHome, FitsTable, HasTable, IsAccepted, IsHome, OpensTable, Suits, opening_writes, sets_its_kind, table_of}
+use Rattle.tl_isolation.specs.Tables.{AreHome, FitsTable, HasTable, IsHome, OpensTable, Suits, opening_writes, sets_its_kind, table_of}
 use Rattle.tl_isolation.proofs.Computed.{kind_computed, set_of_kinds, set_value}
 use Rattle.tl_isolation.proofs.Lookups.{all_filter, all_map, some_same}
 use Rattle.tl_protocol.proofs.Shown.{AreHomeWrites}

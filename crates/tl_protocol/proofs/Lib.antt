@@ -24,6 +24,7 @@ pub mod Owner
 pub mod Play
 pub mod Proper
 pub mod RarerMoves
+pub mod Refused
 pub mod Reached
 pub mod Recovery
 pub mod Sets
