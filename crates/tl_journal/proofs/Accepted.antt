@@ -1,6 +1,6 @@
 -- The journal of a session of one node, as bytes: its events are those of its script, its places serve them, and so the
 -- law speaks of it.
-use Rattle.std.proofs.Common.{◌≡◌, ◌≤◌, ◌<◌, ℕ, zero, suc, ◌^◌, pos, Bool, true, false, inl, inr, List, [], ◌∷◌, ◌++◌, Some, refl, sym, ap, ◌∙◌, subst, arith}
+use Rattle.std.proofs.Common.{◌≡◌, ◌≤◌, ◌<◌, ℕ, zero, suc, ◌^◌, Bool, true, false, inl, inr, List, [], ◌∷◌, ◌++◌, Some, refl, sym, ap, ◌∙◌, subst, arith}
 use Rattle.std.specs.Prelude.{◌==◌, ◌&&◌, ◌||◌, not, map, is_some, if◌then◌else◌}
 use Rattle.std.proofs.lemmas.List.Elements.{All-from_recursion}
 use Rattle.tl_base.specs.Along.{Along}
@@ -530,6 +530,8 @@ bound_one =
     record {
       tables = omega arith;
       nodes = ((omega arith, omega arith), tt);
+      sessions = (refl, tt);
+      vanishes = tt;
       statements = ((insert_fits, (select_fits, tt)), tt);
       opening = tt;
       writes = tt;

@@ -1,6 +1,6 @@
 -- What the reader of scripts lets through: statements and opening rows that fit their tables, keys and rows of a bounded size.
-use Rattle.std.specs.Prelude.{◌≡◌, ℕ, ◌<◌, ◌≤◌, ◌^◌, zero, suc, Bool, true, false, List, [], ◌∷◌, length, Option, Some, None}
-use Rattle.std.specs.List.{AllByRecursion}
+use Rattle.std.specs.Prelude.{◌≡◌, ℕ, ◌==◌, ◌<◌, ◌≤◌, ◌^◌, zero, suc, Bool, true, false, List, [], ◌∷◌, length, Option, Some, None}
+use Rattle.std.specs.List.{AllByRecursion, list_any}
 use Rattle.tl_base.specs.declared.place.Settings.{Settings}
 use Rattle.tl_values.specs.declared.value.Value.{Value}
 use Rattle.tl_schema.specs.declared.catalog.Catalog.{Catalog}
@@ -17,6 +17,7 @@ use Rattle.tl_isolation.specs.declared.bound.Bound.{Bound}
 use Rattle.tl_isolation.specs.declared.bound.Bound.TheVariants as bound
 use Rattle.tl_isolation.specs.declared.script.Script.{Script}
 use Rattle.tl_isolation.specs.declared.script.Session.{Session}
+use Rattle.tl_isolation.specs.declared.script.Vanish.{Vanish}
 use Rattle.tl_isolation.specs.Queries.{SuitsQuery}
 use Rattle.tl_isolation.specs.Script.{setup_of}
 use Rattle.tl_isolation.specs.Tables.{OpensFitting, Suits, opening_writes, table_of}
@@ -76,10 +77,17 @@ StatementFits catalog (bound.Change edit) = EditFits catalog edit
 StatementFits catalog (bound.Recover gone) = (1 ≤ gone) × (gone ≤ 16)
 StatementFits catalog statement = Unit {0}
 
+-- no two of these have one number
+abbrev pub EachOnce : {A : Type 0} → (A → ℕ) → List A → Type 0
+EachOnce number_in [] = Unit {0}
+EachOnce number_in (x ∷ xs) = (list_any (λ y. number_in x == number_in y) xs ≡ false) × EachOnce number_in xs
+
 -- a script that the reader lets through
 pub record IsBound (script : Script) (settings : Settings) : Type 0 where
   pub tables : length script.catalog.tables ≤ 64
   pub nodes : AllByRecursion (λ (s : Session). (1 ≤ s.node) × (s.node ≤ 16)) script.sessions
+  pub sessions : EachOnce (λ (s : Session). s.node) script.sessions
+  pub vanishes : EachOnce (λ (v : Vanish). v.node) script.vanishes
   pub statements : AllByRecursion (λ (s : Session). AllByRecursion (StatementFits script.catalog) s.statements) script.sessions
   pub opening : OpensFitting (setup_of script settings)
   pub writes : AllByRecursion WriteFits (opening_writes script.catalog script.rows)
