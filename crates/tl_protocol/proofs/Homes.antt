@@ -148,10 +148,10 @@ sorted tables = true_if (is_sorted key_cmp (finmap.entries tables)) (finmap.entr
     true_if false h = absurd h
 
 -- the record is at home, and in the table of this number
-abbrev IsHomeIn : Catalog → ℕ → List ℕ × List Value → Type 0
+abbrev pub IsHomeIn : Catalog → ℕ → List ℕ × List Value → Type 0
 IsHomeIn catalog number e = IsHome catalog e.0 e.1 × (is_in number e.0 ≡ true)
 
-matching_home : (catalog : Catalog) (number : ℕ) (condition : Option Condition) (tables : Tables) → AreHome catalog tables
+pub matching_home : (catalog : Catalog) (number : ℕ) (condition : Option Condition) (tables : Tables) → AreHome catalog tables
     → AllByRecursion (IsHomeIn catalog number) (matching number condition tables)
 matching_home catalog number condition tables h =
     all_filter (IsHomeIn catalog number) (IsHomeIn catalog number) (λ (e : List ℕ × List Value). lets_through condition e.1) (λ e i j. j) (records_in number tables)

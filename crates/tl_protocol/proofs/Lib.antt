@@ -8,9 +8,11 @@ pub mod Duties
 pub mod Examples
 pub mod Finished
 pub mod Finishing
+pub mod ForKey
 pub mod Frames
 pub mod Held
 pub mod History
+pub mod HomeKeys
 pub mod Homes
 pub mod Inv
 pub mod Laid
@@ -19,6 +21,7 @@ pub mod Ledger
 pub mod Managers
 pub mod Meanings
 pub mod Moves
+pub mod Named
 pub mod Opening
 pub mod Owner
 pub mod Play
