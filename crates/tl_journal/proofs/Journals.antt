@@ -157,6 +157,7 @@ notice_is (Some nodes) (Some set) h = h.0
 -- so after each front of a run the places and the nodes hold what the world has
 pub holds_at : (script : Script) (settings : Settings) (past : List Event) (s : Stood (layout_of script settings) script settings past) → Holds script settings past s.world
 holds_at script settings past s = record {
+  catalog = s.catalog;
   records = λ key is_record. (s.store.holds.cells key is_record).read;
   commits = s.store.holds.commits.read;
   logs = λ tid small. log_cell_is tid (cell_in settings (setup_of script settings) past (log_key tid)) (s.world.logs tid) (s.store.holds.logs tid small);

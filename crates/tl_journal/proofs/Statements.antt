@@ -40,7 +40,7 @@ use Rattle.tl_protocol.specs.Run.{Layout}
 use Rattle.tl_protocol.proofs.Frames.{put_same}
 use Rattle.tl_protocol.proofs.Inv.{base}
 use Rattle.tl_protocol.proofs.Reached.{Reached, reached}
-use Rattle.tl_protocol.proofs.Shown.{AreHomeWrites}
+use Rattle.tl_protocol.proofs.Shown.{AreHomeWrites, AreKeyed}
 use Rattle.tl_protocol.proofs.Steps.{node_at, numbered}
 use Rattle.tl_journal.specs.Binding.{StatementFits}
 use Rattle.tl_journal.specs.Ask.{Found, Heard, Told}
@@ -264,8 +264,8 @@ module _ (R : Txn → List Fact → Reads → Type 0) (layout : Layout) (setup :
       let all : Reached setup w state entries = reached b.opening b.reach in
       let at : At w n (protocol.Live t facts) = record { runs = b.runs; so_far = e } in
       let ok = node_at w all.ledger all.ghost all.inv n (protocol.Live t facts) at in
-      found (λ (x : Transaction). AreHomeWrites setup.catalog x.own) (λ (x : Transaction). x.node == n) state.held _ all.proper.held
-      (all.shows.held n (numbered w all.ledger all.ghost all.inv n b.runs) ∙ ok.txn.is_held)
+      (found (λ (x : Transaction). AreHomeWrites setup.catalog x.own × AreKeyed setup.catalog x.own) (λ (x : Transaction). x.node == n) state.held _ all.proper.held
+      (all.shows.held n (numbered w all.ledger all.ghost all.inv n b.runs) ∙ ok.txn.is_held)).0
 
 module _ (layout : Layout) (setup : Setup) (settings : Settings) (statement : Bound) where
   abbrev R : Txn → List Fact → Reads → Type 0

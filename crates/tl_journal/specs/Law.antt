@@ -19,7 +19,6 @@ use Rattle.tl_manager.specs.Serves.{active_after, notice_after}
 use Rattle.tl_manager.specs.Transactions.{tids_of}
 use Rattle.tl_write.specs.declared.write.Write.{Write}
 use Rattle.tl_write.specs.Tables.{is_in}
-use Rattle.tl_isolation.specs.declared.entry.Answer.{Answer}
 use Rattle.tl_isolation.specs.declared.script.Script.{Script}
 use Rattle.tl_isolation.specs.declared.script.Session.{Session}
 use Rattle.tl_isolation.specs.declared.state.Commit.{Commit}
@@ -36,7 +35,7 @@ use Rattle.tl_journal.specs.declared.event.Event.{Event}
 use Rattle.tl_journal.specs.Ask.{Ask}
 use Rattle.tl_journal.specs.Asks.{asks}
 use Rattle.tl_journal.specs.Binding.{IsBound}
-use Rattle.tl_journal.specs.Bytes.{commits_key, heard, home_of, log_key}
+use Rattle.tl_journal.specs.Bytes.{commits_key, home_of, log_key}
 use Rattle.tl_journal.specs.Journal.{entries_told, has_vanished, is_post, manager_log, node_after, session_of, shard_log}
 use Rattle.tl_journal.specs.Node.{Doing, Inside, Reading, owed_by}
 use Rattle.tl_journal.specs.Run.{IsTrace}
@@ -102,6 +101,7 @@ bytes_at script settings past key = (cell_at (shard_log settings (setup_of scrip
 -- of the finished transactions, the log cells, the active transactions with their snapshots, the death notices, and whom a
 -- running node is to recover
 pub record Holds (script : Script) (settings : Settings) (past : List Event) (w : World) : Type 0 where
+  pub catalog : w.catalog ≡ script.catalog
   pub records : (key : Key) → is_record_key key ≡ true → read_cell (bytes_at script settings past key) ≡ Some (w.cells key).versions
   pub commits : sets.read_set (bytes_at script settings past commits_key) ≡ Some w.commits.finished
   pub logs : (tid : ℕ) → tid ≤ 2 ^ 62 → IsLogCell tid (bytes_at script settings past (log_key tid)) (w.logs tid)
@@ -134,14 +134,15 @@ FirstCommits = (script : Script) (settings : Settings) (past : List Event) (e : 
     → (tid : ℕ) (snapshot floor : TidSet) → e.reply ≡ reply.Manager (manager.Began tid snapshot floor)
     → AreFirst snapshot (state_after (setup_of script settings) (entries_told past)).commits
 
--- no place replies anything strange, where fewer than 2^32 rows open the tables: at a reply the node that asked doesn't stop,
--- whatever it answers, and the reply holds no transaction number where none can stand
+-- no place replies anything strange, where fewer than 2^32 rows open the tables: each reply is one that a place may give for the
+-- request, each cell is a cell for its key, the node that asked doesn't stop at it, whatever it answers, and it holds no
+-- transaction number where none can stand
 abbrev pub NothingStrange : Type 0
 NothingStrange = (script : Script) (settings : Settings) (past : List Event) (e : Event) (rest : List Event) → IsRun script settings (past ++ e ∷ rest)
     → length script.rows < 2 ^ 32 → is_post e.request ≡ false
     → (session : Session) → session_of script e.node ≡ Some session
     → (ask : Ask) → asks settings script.catalog (node_after settings script past session) ≡ Some ask
-    → (told : Answer) → is_strange settings script.catalog (node_after settings script past session) (heard ask e.reply) told ≡ false
+    → is_strange settings script.catalog (node_after settings script past session) ask e.reply ≡ false
 
 -- what a transaction that takes statements has written
 abbrev pub own_in : Doing → List Write
