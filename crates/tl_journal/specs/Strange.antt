@@ -1,6 +1,6 @@
 -- What no place of a run replies: a reply that is of another kind than the request asks for, that refuses, that a shard can't
 -- give for the request, that holds a cell which isn't one for its key, or a transaction number where it can't stand.
-use Rattle.std.specs.Prelude.{ℕ, ◌+◌, ◌==◌, Bool, true, false, not, ◌&&◌, ◌||◌, nat_le, nat_lt, List, [], ◌∷◌, Some, None, length, if◌then◌else◌}
+use Rattle.std.specs.Prelude.{◌≡◌, ℕ, ◌+◌, ◌==◌, Bool, true, false, not, ◌&&◌, ◌||◌, nat_le, nat_lt, List, [], ◌∷◌, Some, None, length, if◌then◌else◌}
 use Rattle.std.specs.List.{list_all, list_any}
 use Rattle.std.specs.Ordering.{is_lt}
 use Rattle.tl_base.specs.declared.place.Settings.{Settings}
@@ -17,10 +17,12 @@ use Rattle.tl_manager.specs.declared.request.Reply.{Reply}
 use Rattle.tl_manager.specs.declared.request.Reply.TheVariants as reply
 use Rattle.tl_versions.specs.Versions.{is_written}
 use Rattle.tl_write.specs.Own.{key_cmp}
+use Rattle.tl_isolation.specs.declared.entry.Answer.{Answer}
 use Rattle.tl_isolation.specs.declared.entry.Answer.TheVariants as answer
 use Rattle.tl_protocol.specs.Move.{is_empty}
 use Rattle.tl_protocol.specs.Store.{Key}
 use Rattle.tl_journal.specs.Ask.{Ask, LoadCommits, StoreCommits, LoadLog, StoreLog, LoadRecord, StoreRecord, ReadPage, AskManager, Found, Heard, Commits, Log, Record, Page, Numbers, Told, Strange}
+use Rattle.tl_journal.specs.Asks.{asks}
 use Rattle.tl_journal.specs.Bytes.{heard, page_limit}
 use Rattle.tl_journal.specs.ForKey.{greatest_tid, is_key_of, is_record_for}
 use Rattle.tl_journal.specs.Node.{Doing, Noted, Drawing, Inside, Stores, Closing, Recovering, ReadingLog, Stopped, Node}
@@ -134,3 +136,20 @@ stops_at settings catalog node heard = is_stopped (takes settings catalog node h
 abbrev pub is_strange : Settings → Catalog → Node → Ask → Reply → Bool
 is_strange settings catalog node ask told =
     stops_at settings catalog node (sound_heard catalog ask told) || is_odd_for node.doing (sound_heard catalog ask told)
+
+-- ---- what follows for every node
+
+-- a node that asks something stops where it hears what no place of a run replies
+abbrev pub StopsAtStrange : Type 0
+StopsAtStrange = (settings : Settings) (catalog : Catalog) (node : Node) (ask : Ask) → asks settings catalog node ≡ Some ask
+    → stops_at settings catalog node Strange ≡ true
+
+-- so it hears of a reply that isn't strange all that the reply says
+abbrev pub HeardAsSaid : Type 0
+HeardAsSaid = (settings : Settings) (catalog : Catalog) (node : Node) (ask : Ask) (told : Reply) → asks settings catalog node ≡ Some ask
+    → is_strange settings catalog node ask told ≡ false → sound_heard catalog ask told ≡ heard ask told
+
+-- and no reply stops it at one answer and not at another
+abbrev pub StopsAlike : Type 0
+StopsAlike = (settings : Settings) (catalog : Catalog) (node : Node) (heard : Heard) (told : Answer)
+    → is_stopped (takes settings catalog node heard told).doing ≡ stops_at settings catalog node heard
