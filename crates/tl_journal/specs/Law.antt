@@ -27,7 +27,7 @@ use Rattle.tl_isolation.specs.Script.{IsAnswered, SpeaksAt, setup_of}
 use Rattle.tl_isolation.specs.Tables.{table_of}
 use Rattle.tl_protocol.specs.Next.{owed}
 use Rattle.tl_protocol.specs.Stands.{HasOneMender, StandsFor}
-use Rattle.tl_protocol.specs.Store.{Key, LogCell}
+use Rattle.tl_protocol.specs.Store.{Key, LogCell, same_key}
 use Rattle.tl_protocol.specs.Told.{count_in}
 use Rattle.tl_protocol.specs.World.{World}
 use Rattle.tl_versions.specs.Reading.{read_cell}
@@ -97,6 +97,12 @@ IsNotice (Some nodes) (Some set) = AreNodes nodes set
 abbrev pub bytes_at : Script → Settings → List Event → Key → List ℕ
 bytes_at script settings past key = (cell_at (shard_log settings (setup_of script settings) (shard_of_key key settings.shards) past) key).value
 
+-- a key that is not that of a record, of the commits cell or of a log cell
+pub record IsOther (key : Key) : Type 0 where
+  pub no_record : is_record_key key ≡ false
+  pub no_commits : same_key commits_key key ≡ false
+  pub no_log : (tid : ℕ) → tid ≤ 2 ^ 62 → same_key (log_key tid) key ≡ false
+
 -- the shards, the managers and the nodes hold after these events what this world has: of each record its versions, the set
 -- of the finished transactions, the log cells, the active transactions with their snapshots, the death notices, and whom a
 -- running node is to recover
@@ -105,6 +111,8 @@ pub record Holds (script : Script) (settings : Settings) (past : List Event) (w 
   pub records : (key : Key) → is_record_key key ≡ true → read_cell (bytes_at script settings past key) ≡ Some (w.cells key).versions
   pub commits : sets.read_set (bytes_at script settings past commits_key) ≡ Some w.commits.finished
   pub logs : (tid : ℕ) → tid ≤ 2 ^ 62 → IsLogCell tid (bytes_at script settings past (log_key tid)) (w.logs tid)
+  -- no cell stands under another key
+  pub others : (key : Key) → IsOther key → bytes_at script settings past key ≡ []
   pub active : (m : ℕ) → m < settings.managers → AreActive settings w.active m (active_after (manager_log m past))
   pub notices : (n : ℕ) → IsNotice (w.notices n) (notice_after (manager_log (home_of settings n) past) n)
   pub vanished : (n : ℕ) → w.gone n ≡ has_vanished past n
