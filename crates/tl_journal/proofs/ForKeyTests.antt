@@ -1,11 +1,10 @@
 -- What is a cell for its key passes the tests of one: rows at home, and keys of records.
-use Rattle.std.proofs.Common.{◌≡◌, ℕ, zero, suc, ◌<◌, ◌≤◌, ◌^◌, Bool, true, false, List, [], ◌∷◌, ◌++◌, length, Option, Some, None, refl, sym, ap, ◌∙◌, subst, arith}
-use Rattle.std.specs.Prelude.{◌&&◌, ◌||◌, not, nat_le, nat_lt, slice_get}
+use Rattle.std.proofs.Common.{◌≡◌, ℕ, zero, suc, true, false, List, [], ◌∷◌, length, Option, Some, None, refl, sym, ap, ◌∙◌, subst}
+use Rattle.std.specs.Prelude.{◌&&◌, not, nat_le, nat_lt, slice_get}
 use Rattle.std.specs.List.{AllByRecursion, list_all}
 use Rattle.std.proofs.lemmas.Bool.{and_from, and_parts, le-leb, lt-ltb, ltb-false, not_from_false, or_parts}
 use Rattle.tl_values.specs.declared.value.Value.{Value}
 use Rattle.tl_values.specs.Key.{AreValues, key_bytes}
-use Rattle.tl_values.specs.Reading.{read_key_value}
 use Rattle.tl_values.specs.Value.{is_null, value_at, values_at}
 use Rattle.tl_values.proofs.KeyReading.{value_again}
 use Rattle.tl_schema.specs.declared.catalog.Catalog.{Catalog}
@@ -19,7 +18,7 @@ use Rattle.tl_isolation.specs.Tables.{FitsTable, IsAccepted, IsHome, table_of}
 use Rattle.tl_protocol.specs.Stands.{IsKeyOf, IsVersionFor}
 use Rattle.tl_protocol.specs.Store.{Key, same_key}
 use Rattle.tl_protocol.proofs.Cells.{key_itself}
-use Rattle.tl_journal.specs.ForKey.{are_values_of, first_passes, greatest_tid, is_change_for, is_home, is_home_in, is_key_in, is_key_of, is_of_column, is_record_for, is_row_of}
+use Rattle.tl_journal.specs.ForKey.{are_values_of, first_passes, greatest_tid, is_change_for, is_home, is_key_in, is_key_of, is_of_column, is_record_for, is_row_of}
 use Rattle.tl_journal.proofs.Keyed.{accepted_parts, key_of_values, key_short}
 
 -- ---- rows

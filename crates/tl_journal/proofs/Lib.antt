@@ -60,6 +60,7 @@ pub mod StoreRanges
 pub mod StoreServes
 pub mod StoreStays
 pub mod StrangeCounts
+pub mod StrangeExamples
 pub mod StrangeHeard
 pub mod StrangeLefts
 pub mod StrangeOdd

@@ -1,11 +1,9 @@
 -- A node stops at what no place of a run replies, and whether it stops doesn't depend on what it answers.
 use Rattle.std.proofs.Common.{◌≡◌, ℕ, Bool, true, false, List, [], ◌∷◌, Option, Some, None, refl, sym, ap, ◌∙◌, subst, arith}
 use Rattle.std.specs.Prelude.{◌&&◌, ◌||◌, if◌then◌else◌}
-use Rattle.std.proofs.lemmas.Bool.{both_ways}
 use Rattle.tl_base.specs.declared.place.Settings.{Settings}
 use Rattle.tl_schema.specs.declared.catalog.Catalog.{Catalog}
 use Rattle.tl_manager.specs.declared.request.ManagerReply.TheVariants as manager
-use Rattle.tl_manager.specs.declared.request.Reply.{Reply}
 use Rattle.tl_write.specs.declared.write.Write.{Write}
 use Rattle.tl_isolation.specs.declared.bound.Bound.{Bound}
 use Rattle.tl_isolation.specs.declared.entry.Answer.{Answer}

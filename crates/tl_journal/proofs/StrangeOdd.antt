@@ -1,6 +1,6 @@
 -- No place of a run tells a transaction number where it can't stand.
 use Rattle.std.proofs.Common.{◌≡◌, inl, inr, ℕ, ◌+◌, ◌≤◌, ◌^◌, Bool, true, false, List, [], ◌∷◌, ◌++◌, Option, Some, None, refl, sym, ap, ◌∙◌, subst, arith}
-use Rattle.std.specs.Prelude.{◌==◌, not, nat_lt}
+use Rattle.std.specs.Prelude.{not, nat_lt}
 use Rattle.std.specs.List.{list_any}
 use Rattle.std.proofs.lemmas.Bool.{both_ways, eq-eqb, or_from}
 use Rattle.std.proofs.lemmas.Bool.Decides.{nat_tests}
@@ -17,7 +17,7 @@ use Rattle.tl_write.specs.Own.{is_rising}
 use Rattle.tl_isolation.specs.declared.bound.Bound.{Bound}
 use Rattle.tl_isolation.specs.declared.entry.Entry.{Entry}
 use Rattle.tl_isolation.specs.declared.state.SiState.{SiState}
-use Rattle.tl_protocol.specs.Store.{Key, CommitsCell, LogCell}
+use Rattle.tl_protocol.specs.Store.{CommitsCell, LogCell}
 use Rattle.tl_protocol.specs.World.{Txn, Fact, Commit, Undo, Decision, Phase, World, At}
 use Rattle.tl_protocol.specs.World as protocol
 use Rattle.tl_protocol.specs.Run.{Layout}

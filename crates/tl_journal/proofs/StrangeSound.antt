@@ -1,6 +1,6 @@
 -- Each cell that a place of a run replies is a cell for its key, and no set that a manager tells has too great a number.
 use Rattle.std.proofs.Common.{◌≡◌, inl, inr, ℕ, ◌≤◌, ◌⊎◌, ◌^◌, Bool, true, false, List, [], ◌∷◌, Option, Some, None, refl, sym, ap, ◌∙◌, subst, arith}
-use Rattle.std.specs.Prelude.{◌&&◌, not, nat_le, nat_lt, if◌then◌else◌}
+use Rattle.std.specs.Prelude.{nat_le, nat_lt, if◌then◌else◌}
 use Rattle.std.specs.List.{AllByRecursion, list_all, list_any}
 use Rattle.std.proofs.lemmas.Bool.{and_from, and_parts, leb-true, not_from_false, or_from}
 use Rattle.std.proofs.lemmas.Bool.Decides.{nat_tests}
@@ -14,7 +14,6 @@ use Rattle.tl_manager.specs.declared.active.Active.{Active}
 use Rattle.tl_manager.specs.declared.request.ManagerRequest.{ManagerRequest}
 use Rattle.tl_manager.specs.declared.request.ManagerRequest.TheVariants as asked
 use Rattle.tl_manager.specs.Floor.{newer}
-use Rattle.tl_versions.specs.declared.version.Version.{Version}
 use Rattle.tl_isolation.specs.declared.entry.Entry.{Entry}
 use Rattle.tl_isolation.specs.declared.state.SiState.{SiState}
 use Rattle.tl_protocol.specs.Run.{Layout}
@@ -24,14 +23,14 @@ use Rattle.tl_protocol.specs.World.{Fact, Txn, World}
 use Rattle.tl_protocol.proofs.Finished.{Snap}
 use Rattle.tl_protocol.proofs.ForKey.{logs_for, records_for}
 use Rattle.tl_protocol.proofs.Reached.{Reached, reached}
-use Rattle.tl_journal.specs.Ask.{Ask, LoadCommits, StoreCommits, LoadLog, StoreLog, LoadRecord, StoreRecord, ReadPage, DrawNumbers, AskManager, Found, Heard, Log, Record, Page}
+use Rattle.tl_journal.specs.Ask.{Ask, LoadCommits, StoreCommits, LoadLog, StoreLog, LoadRecord, StoreRecord, ReadPage, DrawNumbers, AskManager, Found, Heard, Log}
 use Rattle.tl_journal.specs.Asks.{asks}
 use Rattle.tl_journal.specs.Bytes.{home_of}
-use Rattle.tl_journal.specs.ForKey.{greatest_tid, is_key_of, is_record_for}
+use Rattle.tl_journal.specs.ForKey.{greatest_tid, is_record_for}
 use Rattle.tl_journal.specs.Node.{Node}
 use Rattle.tl_journal.specs.Reads.{Reads}
 use Rattle.tl_journal.specs.Served.{Answers, IsMark, IsWithin, Parts, Serves, parts_of}
-use Rattle.tl_journal.specs.Strange.{has_great, is_great, is_sound}
+use Rattle.tl_journal.specs.Strange.{is_great, is_sound}
 use Rattle.tl_journal.proofs.Asking.{may_ask}
 use Rattle.tl_journal.proofs.ForKeyTests.{keys_are, record_is}
 use Rattle.tl_journal.proofs.ManagerServes.{MayAsk}

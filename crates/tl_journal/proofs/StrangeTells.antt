@@ -6,9 +6,8 @@ use Rattle.std.specs.Ordering.{is_lt}
 use Rattle.std.specs.FinMap as finmap
 use Rattle.std.specs.FinMap.Entries.{below_all, find, is_sorted}
 use Rattle.std.specs.Cmp.Lexicographic.{nat_list_cmp_total}
-use Rattle.std.proofs.lemmas.Bool.{and_from, and_parts, eqb-true, le-leb, lt-ltb, ltb-false, ltb-true, not_from_false}
+use Rattle.std.proofs.lemmas.Bool.{and_from, and_parts, eqb-true, le-leb, lt-ltb, ltb-true, not_from_false}
 use Rattle.std.proofs.lemmas.Bool.Decides.{nat_tests}
-use Rattle.std.proofs.lemmas.List.{length-map}
 use Rattle.tl_base.specs.Along.{Along}
 use Rattle.tl_base.specs.declared.place.PlaceId.TheVariants as place
 use Rattle.tl_base.specs.declared.place.Settings.{Settings}
@@ -52,7 +51,7 @@ use Rattle.tl_journal.proofs.StoreRanges.{Entry, entries_of, in_range, range_ent
 use Rattle.tl_journal.proofs.StoreServes.{IsAtShard, follows_log}
 use Rattle.tl_journal.proofs.StoreStays.{events_answered}
 use Rattle.tl_journal.proofs.Stood.{Stood}
-use Rattle.tl_journal.proofs.StrangeCounts.{IsShort, answer_of, follows, last_low, short}
+use Rattle.tl_journal.proofs.StrangeCounts.{answer_of, follows, last_low, short}
 
 -- ---- stamps
 

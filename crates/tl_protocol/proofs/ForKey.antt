@@ -1,5 +1,5 @@
 -- Each cell of the store is a cell for its key: the rows of record cells are at home, and log cells name records.
-use Rattle.std.proofs.Common.{◌≡◌, ℕ, ◌<◌, ◌≤◌, ◌^◌, Bool, true, false, List, [], ◌∷◌, ◌++◌, Option, Some, None, reverse, refl, sym, ap, ◌∙◌, subst, arith}
+use Rattle.std.proofs.Common.{◌≡◌, ℕ, ◌≤◌, ◌^◌, Bool, true, false, List, [], ◌∷◌, ◌++◌, Option, Some, None, reverse, refl, sym, ap, ◌∙◌, subst, arith}
 use Rattle.std.specs.Prelude.{◌==◌, nat_lt, if◌then◌else◌}
 use Rattle.std.specs.List.{AllByRecursion}
 use Rattle.std.proofs.lemmas.Bool.{both_ways, eq-eqb, ltb-false, ltb-true}
@@ -18,7 +18,6 @@ use Rattle.tl_protocol.specs.World.{Number, Undrawn, Carried, Ready, Begun, Open
 use Rattle.tl_protocol.specs.Stands.{IsKeyOf, IsLogFor, IsVersionFor}
 use Rattle.tl_protocol.proofs.Cells.{key_eq}
 use Rattle.tl_protocol.proofs.Finished.{Finished, commit_on, commits_of, is_done}
-use Rattle.tl_protocol.proofs.Frames.{some_same}
 use Rattle.tl_protocol.proofs.History.{IsKept, history, lay}
 use Rattle.tl_protocol.proofs.Inv.{CellOk, Front, NumbersOk, base, is_begun, is_taken}
 use Rattle.tl_protocol.proofs.Laid.{reverse_cons}

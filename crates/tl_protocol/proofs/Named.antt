@@ -73,4 +73,3 @@ module _ (catalog : Catalog) (w : World) (s : SiState) (a : Ledger) (g : Ghost) 
       let is = named o.tid log stands in
       put_named catalog o.tid _ w.logs is named
   next_named m = named
-
