@@ -1,4 +1,5 @@
 pub mod Lookups
+pub mod Computed
 pub mod Places
 pub mod Past
 pub mod Known

@@ -1,4 +1,6 @@
+pub mod Kinds
 pub mod Tables
+pub mod Queries
 pub mod Meaning
 pub mod State
 pub mod Step

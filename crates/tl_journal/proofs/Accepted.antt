@@ -1,6 +1,6 @@
 -- The journal of a session of one node, as bytes: its events are those of its script, its places serve them, and so the
 -- law speaks of it.
-use Rattle.std.proofs.Common.{◌≡◌, ◌≤◌, ◌<◌, ℕ, zero, suc, ◌^◌, pos, Bool, true, false, inl, inr, List, [], ◌∷◌, ◌++◌, Some, refl, sym, ap, ◌∙◌, subst, arith}
+use Rattle.std.proofs.Common.{◌≡◌, ◌≤◌, ◌<◌, ℕ, zero, suc, ◌^◌, Bool, true, false, inl, inr, List, [], ◌∷◌, ◌++◌, Some, refl, sym, ap, ◌∙◌, subst, arith}
 use Rattle.std.specs.Prelude.{◌==◌, ◌&&◌, ◌||◌, not, map, is_some, if◌then◌else◌}
 use Rattle.std.proofs.lemmas.List.Elements.{All-from_recursion}
 use Rattle.tl_base.specs.Along.{Along}
@@ -39,9 +39,18 @@ use Rattle.tl_algebra.specs.Select.{before, each, first_of, lines_of, selected, 
 use Rattle.tl_write.specs.Change.{Add, judged, nothing}
 use Rattle.tl_write.specs.Own.{key_cmp}
 use Rattle.tl_isolation.specs.Meaning.{QueryAnswers, told_of}
+use Rattle.tl_isolation.specs.Kinds.{every_kind, has_column, same_kind}
+use Rattle.tl_isolation.specs.Queries.{output_fits}
+use Rattle.tl_isolation.proofs.Computed.{alike_test, kind_of_place}
+use Rattle.tl_algebra.specs.declared.condition.Side.TheVariants as side
+use Rattle.tl_algebra.specs.declared.expression.Expression.TheVariants as expression
+use Rattle.tl_algebra.specs.declared.query.Output.TheVariants as output
+use Rattle.tl_values.specs.declared.value.Comparison.TheVariants as comparison
+use Rattle.tl_values.specs.declared.value.Kind.{Kind}
+use Rattle.tl_values.specs.declared.value.Kind.TheVariants as kind
 use Rattle.tl_protocol.specs.Store.{Key}
 use Rattle.tl_protocol.specs.World.{Fresh}
-use Rattle.tl_protocol.proofs.Account.{access_equal, equal_compares, fits_account, is_value, lets_equal, value_of_place, with_balance}
+use Rattle.tl_protocol.proofs.Account.{access_equal, fits_account, lets_equal, number, value_of_place, with_balance}
 use Rattle.tl_protocol.proofs.Meanings.{Row}
 use Rattle.tl_isolation.specs.History.{state_after}
 use Rattle.tl_isolation.specs.Script.{setup_of}
@@ -54,7 +63,7 @@ use Rattle.tl_journal.specs.Node.{Node}
 use Rattle.tl_journal.specs.Asks.{asks, asks_read}
 use Rattle.tl_journal.specs.Takes.{MayMean, MeansRead, after_reply, tables_seen, takes}
 use Rattle.tl_journal.specs.Says.{says_at, says_read}
-use Rattle.std.specs.List.{AllByRecursion}
+use Rattle.std.specs.List.{AllByRecursion, list_any}
 use Rattle.tl_cells.specs.Serves.{ServesAll as ShardServes}
 use Rattle.tl_manager.specs.Serves.{ServesAll as ManagerServes}
 use Rattle.tl_journal.specs.Binding.{IsBound, IsKeyed, StatementFits}
@@ -488,15 +497,42 @@ keyed_t = record { columns = (omega arith, tt); some = refl; not_null = (refl, t
 
 insert_fits : StatementFits catalog_t insert_one
 insert_fits =
-    ((record { width = refl; values = (fits_account 1 10 refl refl).values }, tt), keyed_t, tt, record { columns = omega arith; key = omega arith })
+    record {
+      suits = record { table = omega arith; change = (record { width = refl; values = (fits_account 1 10 refl refl).values; kinds = refl }, tt) };
+      once = tt;
+      keyed = keyed_t;
+      table = record { columns = omega arith; key = omega arith };
+    }
+
+-- a column is printed
+place_fits : (at : ℕ) → has_column (same_kind kind.Int) table_t.columns at ≡ true → output_fits table_t.columns (output.Expression (expression.Place at)) ≡ true
+place_fits at e =
+    ap (λ (g : Kind → Bool). list_any g every_kind) (kind_of_place table_t.columns at)
+    ∙ ap (λ (b : Bool). b || list_any (λ k. has_column (same_kind k) table_t.columns at) (kind.Text ∷ kind.Bool ∷ [])) e
 
 select_fits : StatementFits catalog_t select_one
-select_fits = (λ place. equal_compares 1 place (is_value (pos 1) refl), (keyed_t, tt))
+select_fits =
+    record {
+      suits = record {
+        some = omega arith;
+        few = omega arith;
+        tables = (omega arith, tt);
+        ons = refl;
+        passes = alike_test table_t.columns (side.Place 0) comparison.Equal (side.Literal (number 1));
+        group = refl;
+        outputs = λ i. place_fits 0 refl i && (place_fits 1 refl i && true);
+        sort = refl;
+      };
+      keyed = (keyed_t, tt);
+    }
 
 bound_one : IsBound script_one by_default
 bound_one =
     record {
+      tables = omega arith;
       nodes = ((omega arith, omega arith), tt);
+      sessions = (refl, tt);
+      vanishes = tt;
       statements = ((insert_fits, (select_fits, tt)), tt);
       opening = tt;
       writes = tt;
@@ -504,4 +540,4 @@ bound_one =
 
 pub run_session : IsRun script_one by_default events_one
 run_session =
-    record { bound = bound_one; shards = omega arith; managers = omega arith; few = ltb-true 19 (2 ^ 32) refl; trace = journal_session.trace }
+    record { bound = bound_one; shards = omega arith; few_shards = omega arith; managers = omega arith; few_managers = omega arith; few = ltb-true 19 (2 ^ 32) refl; trace = journal_session.trace }

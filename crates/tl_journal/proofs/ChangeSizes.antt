@@ -6,7 +6,7 @@ use Rattle.std.specs.Cmp.Lexicographic.{nat_list_cmp_total}
 use Rattle.std.specs.FinMap as finmap
 use Rattle.std.specs.FinMap.{nat_cmp-IsAntisymmetric, slice_cmp-IsAntisymmetric}
 use Rattle.std.specs.FinMap.Entries.{below_all, find, is_sorted}
-use Rattle.std.specs.List.{AllByRecursion}
+use Rattle.std.specs.List.{AllByRecursion, list_all}
 use Rattle.std.specs.Ordering.{is_eq, is_lt, match_ordering}
 use Rattle.std.proofs.lemmas.Bool.{and_parts, leb-false}
 use Rattle.std.proofs.lemmas.List.{length-set}
@@ -14,6 +14,7 @@ use Rattle.std.proofs.lemmas.Option.{option_and_then_some}
 use Rattle.tl_values.specs.declared.value.Value.{Value}
 use Rattle.tl_values.specs.Key.{AreValues, IsValue}
 use Rattle.tl_schema.specs.declared.catalog.Catalog.{Catalog}
+use Rattle.tl_schema.specs.declared.catalog.Column.{Column}
 use Rattle.tl_schema.specs.declared.catalog.Table.{Table}
 use Rattle.tl_schema.specs.Limits.{breaks_not_null, is_long}
 use Rattle.tl_schema.specs.Record.{record_key}
@@ -35,7 +36,8 @@ use Rattle.tl_write.proofs.Rising.{below_less, first, none_below, put_rising, se
 use Rattle.tl_isolation.specs.declared.bound.Bound.TheVariants as bound
 use Rattle.tl_isolation.specs.Meaning.{change_of}
 use Rattle.tl_isolation.specs.Step.{own_after}
-use Rattle.tl_isolation.specs.Tables.{FitsTable, GivesValues, Suits, table_of}
+use Rattle.tl_isolation.specs.Tables.{FitsTable, Suits, sets_its_kind, table_of}
+use Rattle.tl_isolation.proofs.Computed.{set_value}
 use Rattle.tl_isolation.proofs.Lookups.{all_filter, all_map, some_same}
 use Rattle.tl_journal.specs.Binding.{KeyFits, StatementFits, TableFits, WriteFits}
 use Rattle.tl_journal.specs.Takes.{first_rows, view_changed}
@@ -162,13 +164,14 @@ set_all P [] place y h p = tt
 set_all P (x ∷ xs) zero y h p = (p, h.1)
 set_all P (x ∷ xs) (suc place) y h p = (h.0, set_all P xs place y h.1 p)
 
--- SET of values leaves the width of a row, and values
-columns_fit : (sets : List SetColumn) (old new row : List Value) → AreValues old → AllByRecursion (λ (set : SetColumn). GivesValues set.value) sets → IsNarrow new
+-- SET leaves the width of a row, and values
+columns_fit : (columns : List Column) (sets : List SetColumn) (old new row : List Value) → AreValues old → list_all (sets_its_kind columns) sets ≡ true → IsNarrow new
     → set_columns sets old new ≡ Some row → IsNarrow row
-columns_fit [] old new row o g h e = subst IsNarrow (some_same new row e) h
-columns_fit (s ∷ ss) old new row o g h e =
+columns_fit columns [] old new row o g h e = subst IsNarrow (some_same new row e) h
+columns_fit columns (s ∷ ss) old new row o g h e =
+    let parts = and_parts (sets_its_kind columns s) (list_all (sets_its_kind columns) ss) g in
     option_and_then_some (λ (v : Value). set_columns ss old (slice_set new s.column v)) (value_of s.value old) row e
-    (λ v i j. columns_fit ss old (slice_set new s.column v) row o g.1 (one v (g.0 old v o i)) j)
+    (λ v i j. columns_fit columns ss old (slice_set new s.column v) row o parts.1 (one v (set_value columns s old v o parts.0 i)) j)
   where
     one : (v : Value) → IsValue v → IsNarrow (slice_set new s.column v)
     one v i = record { count = rw (length-set new s.column v) h.count; values = set_all IsValue new s.column v h.values i }
@@ -185,11 +188,11 @@ additions_fit number table (row ∷ rows) narrow h =
 
 deeds_fit : (catalog : Catalog) (edit : Edit) (tables : Tables) → Suits catalog edit → TableFits (table_of catalog (number_of edit)) → AreRecords tables
     → AllByRecursion (DeedFits (table_of catalog (number_of edit))) (deeds edit (table_of catalog (number_of edit)) tables)
-deeds_fit catalog (Insert number rows) tables suits narrow h = additions_fit number (table_of catalog number) rows narrow.columns suits
+deeds_fit catalog (Insert number rows) tables suits narrow h = additions_fit number (table_of catalog number) rows narrow.columns suits.change
 deeds_fit catalog (Update number sets condition) tables suits narrow h =
     all_map (λ (e : List ℕ × List Value). RecordFits e.0 e.1) (DeedFits (table_of catalog number)) (λ (e : List ℕ × List Value). replaced e.0 (set_columns sets e.1 e.1))
     (λ e i. replaced_fits (table_of catalog number) e.0 (set_columns sets e.1 e.1) i.0
-    (λ row j. columns_fit sets e.1 e.1 row i.1.change.fits.values suits.1 (record { count = i.1.change.fits.count; values = i.1.change.fits.values }) j))
+    (λ row j. columns_fit (table_of catalog number).columns sets e.1 e.1 row i.1.change.fits.values suits.change.1 (record { count = i.1.change.fits.count; values = i.1.change.fits.values }) j))
     (matching number condition tables) (matching_fit number condition tables h)
 deeds_fit catalog (Delete number condition) tables suits narrow h =
     all_map (λ (e : List ℕ × List Value). RecordFits e.0 e.1) (DeedFits (table_of catalog number)) (λ (e : List ℕ × List Value). Remove e.0) (λ e i. i.0)
@@ -385,6 +388,6 @@ change_fits catalog edit own rows s o h = by (change_of catalog edit (view_chang
     by (Ok effect) e =
         let view : Tables = view_changed catalog edit own rows in
         let done = judged_fits (table_in catalog edit) (finmap.contains_key view) own (deeds edit (table_in catalog edit) view) nothing effect
-        (deeds_fit catalog edit view s.0 s.3 (view_fits catalog edit own rows s.3.key o.writes h)) (nothing_done own o) e in
+        (deeds_fit catalog edit view s.suits s.table (view_fits catalog edit own rows s.table.key o.writes h)) (nothing_done own o) e in
         effect_fits own effect o done
     by (Err f) e = o

@@ -371,10 +371,10 @@ answers_session = ap (λ (n : Node). n.answers) walks_session.comes_to
 -- ---- a conflict: both take the same account's row, and node 2 commits second
 
 abbrev pub take_ten : Updating bank
-take_ten = changing_one sign.Subtract 10 1 refl
+take_ten = changing_one sign.Subtract 10 1 refl refl
 
 abbrev pub add_five : Updating bank
-add_five = changing_one sign.Add 5 1 refl
+add_five = changing_one sign.Add 5 1 refl refl
 
 abbrev pub change_by : Updating bank → Bound
 change_by u = bound.Change (edit_of bank u)

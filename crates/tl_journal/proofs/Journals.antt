@@ -157,9 +157,11 @@ notice_is (Some nodes) (Some set) h = h.0
 -- so after each front of a run the places and the nodes hold what the world has
 pub holds_at : (script : Script) (settings : Settings) (past : List Event) (s : Stood (layout_of script settings) script settings past) → Holds script settings past s.world
 holds_at script settings past s = record {
+  catalog = s.catalog;
   records = λ key is_record. (s.store.holds.cells key is_record).read;
   commits = s.store.holds.commits.read;
   logs = λ tid small. log_cell_is tid (cell_in settings (setup_of script settings) past (log_key tid)) (s.world.logs tid) (s.store.holds.logs tid small);
+  others = λ key o. ap (λ (c : ShardCell). c.value) (s.store.holds.others key o);
   active = λ m l. (s.managers.each m l).active;
   notices = λ n. notice_is (s.world.notices n) (notice_after (manager_log (home_of settings n) past) n)
       ((s.managers.each (home_of settings n) (home_among settings n s.laid_out.some)).notices n refl);

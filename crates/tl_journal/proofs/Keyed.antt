@@ -39,7 +39,7 @@ none_null columns row [] h r = refl
 none_null columns row (place ∷ key) h r =
     or_from (is_null (value_at row place)) (list_any is_null (values_at key row)) (known_at columns row place h r.0) (none_null columns row key h r.1)
 
-accepted_parts : (null long : Bool) → first_of (where_so null fault.Null) (where_so long fault.Long) ≡ None → (null ≡ false) × (long ≡ false)
+pub accepted_parts : (null long : Bool) → first_of (where_so null fault.Null) (where_so long fault.Long) ≡ None → (null ≡ false) × (long ≡ false)
 accepted_parts true long e = absurd cc
 accepted_parts false true e = absurd cc
 accepted_parts false false e = (refl, refl)

@@ -14,6 +14,7 @@ pub mod Examples
 pub mod Facts
 pub mod FirstCommits
 pub mod Fits
+pub mod ForKeyTests
 pub mod Goings
 pub mod Gone
 pub mod Heeded
@@ -59,10 +60,14 @@ pub mod StoreRanges
 pub mod StoreServes
 pub mod StoreStays
 pub mod StrangeCounts
+pub mod StrangeExamples
+pub mod StrangeHeard
 pub mod StrangeLefts
 pub mod StrangeOdd
 pub mod StrangeReplies
+pub mod StrangeSound
 pub mod StrangeStops
+pub mod StrangeTells
 pub mod Together
 pub mod Unsaid
 pub mod Vanishes

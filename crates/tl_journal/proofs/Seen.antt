@@ -21,6 +21,7 @@ use Rattle.tl_algebra.specs.declared.edit.Edit.TheVariants.{Insert, Update, Dele
 use Rattle.tl_algebra.specs.declared.query.Join.{Join}
 use Rattle.tl_algebra.specs.declared.query.Query.{Query}
 use Rattle.tl_algebra.specs.Select.{lines_of, selected}
+use Rattle.tl_plan.proofs.Alike.{compares_values}
 use Rattle.tl_plan.specs.Access.{access_of, accesses_of, covers, is_below}
 use Rattle.tl_plan.specs.Plan.{is_looked_up, longest_key, numbers_of}
 use Rattle.tl_plan.specs.Law.{AreRead, IsRead, ReadsAll, is_covered}
@@ -37,6 +38,7 @@ use Rattle.tl_isolation.specs.declared.entry.Answer.{Answer}
 use Rattle.tl_isolation.specs.declared.entry.Answer.TheVariants as answer
 use Rattle.tl_isolation.specs.Meaning.{QueryAnswers, SelectAnswers, change_of, told_of}
 use Rattle.tl_isolation.specs.Step.{own_after}
+use Rattle.tl_isolation.specs.Queries.{columns_in}
 use Rattle.tl_isolation.specs.Tables.{AreHome, FitsTable, IsAccepted, IsHome, Suits, rows_in, table_of}
 use Rattle.tl_isolation.proofs.Lookups.{all_map, weaker}
 use Rattle.tl_protocol.specs.Store.{Key, last_of, over, same_key, written}
@@ -45,7 +47,7 @@ use Rattle.tl_protocol.specs.Move.{Changes}
 use Rattle.tl_protocol.proofs.Laid.{get_laid}
 use Rattle.tl_protocol.proofs.Homes.{laid_home}
 use Rattle.tl_protocol.proofs.Shown.{AreHomeWrites}
-use Rattle.tl_journal.specs.Binding.{EditCompares, IsKeyed, StatementFits}
+use Rattle.tl_journal.specs.Binding.{IsKeyed, StatementFits}
 use Rattle.tl_journal.specs.Reads.{Read, Point, edit_reads, query_reads, range_of, read_of, reads_of, table_key}
 use Rattle.tl_journal.specs.Takes.{own_said, tables_seen, view_changed, view_read}
 use Rattle.tl_journal.proofs.Keyed.{key_known, key_of_values, key_short, key_within}
@@ -308,13 +310,13 @@ pub select_means : (shards : ℕ) (catalog : Catalog) (facts : List Fact) (own :
 select_means shards catalog facts own query rows told fits own_home g h tables home agrees =
     told_same query (tables_seen catalog (numbers_of query) own rows) (map (λ (join : Join). rows_in join.table (laid_over tables own)) query.from) told
     (select_part query (map (table_of catalog) (numbers_of query)) (map (λ (join : Join). rows_in join.table (laid_over tables own)) query.from)
-    (tables_seen catalog (numbers_of query) own rows) fits.0
+    (tables_seen catalog (numbers_of query) own rows) (compares_values (columns_in catalog query) query.filter fits.suits.passes)
     (subst
     (λ wholes.
     AreRead (map (table_of catalog) (numbers_of query)) (accesses_of (map (table_of catalog) (numbers_of query)) 0 query.filter) wholes
     (tables_seen catalog (numbers_of query) own rows))
     (same_rows query.from (laid_over tables own))
-    (are_read shards catalog facts tables home agrees own own_home (numbers_of query) 0 query.filter rows (keyed_numbers catalog query.from fits.1) g)))
+    (are_read shards catalog facts tables home agrees own own_home (numbers_of query) 0 query.filter rows (keyed_numbers catalog query.from fits.keyed) g)))
     h
 
 -- ---- a change
@@ -376,10 +378,10 @@ point_reached shards number table (r ∷ rows) row found (inr h) e = one (is_loo
 module _ (shards : ℕ) (catalog : Catalog) (facts : List Fact) (tables : Tables) (home : AreHome catalog tables) (agrees : Agrees tables facts) (own : List Write)
     (own_home : AreHomeWrites catalog own) where
   -- the node sees all that the change looks at
-  sees_all : (edit : Edit) (rows : List (List Value)) → Suits catalog edit → IsKeyed (table_of catalog (number_of edit)) → EditCompares edit
+  sees_all : (edit : Edit) (rows : List (List Value)) → Suits catalog edit → IsKeyed (table_of catalog (number_of edit))
       → IsGathered shards catalog facts (number_of edit) (edit_reads catalog edit) (done rows)
       → ReadsAll edit (table_of catalog (number_of edit)) (view_read catalog (number_of edit) own rows) (laid_over tables own)
-  sees_all (Insert number new) rows suits keyed compares g =
+  sees_all (Insert number new) rows suits keyed g =
       let table : Table = table_of catalog number in
       weaker (λ row. Among row new × FitsTable table row)
       (λ row. (found : List Value) → Has (laid_over tables own) (record_key number table row) found → Has (view_read catalog number own rows) (record_key number table row) found)
@@ -388,29 +390,29 @@ module _ (shards : ℕ) (catalog : Catalog) (facts : List Fact) (tables : Tables
       (λ stands.
       point_reached shards number table new row found h.0
       (key_looked_up catalog number row found keyed h.1 (home (record_key number table row) found stands) (in_table number (key_bytes (key_values table row))))) has)
-      new (both_all (λ row. Among row new) (FitsTable table) new (each_among new) suits)
-  sees_all (Update number sets where_) rows suits keyed compares g = (
-    compares,
+      new (both_all (λ row. Among row new) (FitsTable table) new (each_among new) suits.change)
+  sees_all (Update number sets where_) rows suits keyed g = (
+    compares_values (table_of catalog number).columns where_ suits.change.2,
     λ key row has i c.
         covered_seen shards catalog facts tables home agrees own own_home number (edit_reads catalog (Update number sets where_)) rows g keyed
         (access_of (table_of catalog number) 0 where_) refl key row has i c,
   )
-  sees_all (Delete number where_) rows suits keyed compares g = (
-    compares,
+  sees_all (Delete number where_) rows suits keyed g = (
+    compares_values (table_of catalog number).columns where_ suits.change,
     λ key row has i c.
         covered_seen shards catalog facts tables home agrees own own_home number (edit_reads catalog (Delete number where_)) rows g keyed
         (access_of (table_of catalog number) 0 where_) refl key row has i c,
   )
 
-  change_same : (edit : Edit) (rows : List (List Value)) → Suits catalog edit → IsKeyed (table_of catalog (number_of edit)) → EditCompares edit
+  change_same : (edit : Edit) (rows : List (List Value)) → Suits catalog edit → IsKeyed (table_of catalog (number_of edit))
       → IsGathered shards catalog facts (number_of edit) (edit_reads catalog edit) (done rows)
       → change_of catalog edit (view_read catalog (number_of edit) own rows) own ≡ change_of catalog edit (laid_over tables own) own
-  change_same edit rows suits keyed compares g =
+  change_same edit rows suits keyed g =
       let number : ℕ = number_of edit in
       change_part edit (table_of catalog number) (view_read catalog number own rows) (laid_over tables own) own keyed.columns
       (λ key row has i. home_fits catalog number key row (whole_home shards catalog facts tables home agrees own own_home key row has) i)
       (view_part shards catalog facts tables home agrees own own_home number (edit_reads catalog edit) rows g)
-      (sees_all edit rows suits keyed compares g)
+      (sees_all edit rows suits keyed g)
 
 pub change_means : (shards : ℕ) (catalog : Catalog) (facts : List Fact) (own : List Write) (edit : Edit) (rows : List (List (List Value))) (told : Answer)
     → StatementFits catalog (bound.Change edit) → AreHomeWrites catalog own
@@ -419,5 +421,5 @@ pub change_means : (shards : ℕ) (catalog : Catalog) (facts : List Fact) (own :
     → (tables : Tables) → AreHome catalog tables → Agrees tables facts → Changes catalog edit tables own told (own_said catalog (bound.Change edit) own rows)
 change_means shards catalog facts own edit [] told fits own_home g h tables home agrees = absurd g
 change_means shards catalog facts own edit (found ∷ rows) told fits own_home g h tables home agrees =
-    let same = change_same shards catalog facts tables home agrees own own_home edit found fits.0 fits.1 fits.2 g.0 in
+    let same = change_same shards catalog facts tables home agrees own own_home edit found fits.suits fits.keyed g.0 in
     record { answer = ap told_of (sym same) ∙ h; leaves = ap (λ (r : Result Effect ChangeFault). own_after r own) (sym same) }

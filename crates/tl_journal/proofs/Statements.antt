@@ -40,7 +40,7 @@ use Rattle.tl_protocol.specs.Run.{Layout}
 use Rattle.tl_protocol.proofs.Frames.{put_same}
 use Rattle.tl_protocol.proofs.Inv.{base}
 use Rattle.tl_protocol.proofs.Reached.{Reached, reached}
-use Rattle.tl_protocol.proofs.Shown.{AreHomeWrites}
+use Rattle.tl_protocol.proofs.Shown.{AreHomeWrites, AreKeyed}
 use Rattle.tl_protocol.proofs.Steps.{node_at, numbered}
 use Rattle.tl_journal.specs.Binding.{StatementFits}
 use Rattle.tl_journal.specs.Ask.{Found, Heard, Told}
@@ -167,7 +167,7 @@ module _ (settings : Settings) (catalog : Catalog) (v : World) (n number : ℕ) 
       → Means catalog (bound.Change edit) t.own (tables_read reads) told → Says catalog v n number (bound.Change edit) t (tables_read reads) told
   say_change edit fits r e means = record {
     it = move.SayChange n number edit told (own_said catalog (bound.Change edit) t.own (tables_read reads)) t facts at r.takes
-        (subst (λ c. Suits c edit) (sym is_catalog) fits.0)
+        (subst (λ c. Suits c edit) (sym is_catalog) fits.suits)
         (λ tables home agrees.
         subst (λ c. Changes c edit tables t.own told (own_said catalog (bound.Change edit) t.own (tables_read reads))) (sym is_catalog)
         (change_means settings.shards catalog facts t.own edit (tables_read reads) told fits own_home
@@ -264,8 +264,8 @@ module _ (R : Txn → List Fact → Reads → Type 0) (layout : Layout) (setup :
       let all : Reached setup w state entries = reached b.opening b.reach in
       let at : At w n (protocol.Live t facts) = record { runs = b.runs; so_far = e } in
       let ok = node_at w all.ledger all.ghost all.inv n (protocol.Live t facts) at in
-      found (λ (x : Transaction). AreHomeWrites setup.catalog x.own) (λ (x : Transaction). x.node == n) state.held _ all.proper.held
-      (all.shows.held n (numbered w all.ledger all.ghost all.inv n b.runs) ∙ ok.txn.is_held)
+      (found (λ (x : Transaction). AreHomeWrites setup.catalog x.own × AreKeyed setup.catalog x.own) (λ (x : Transaction). x.node == n) state.held _ all.proper.held
+      (all.shows.held n (numbered w all.ledger all.ghost all.inv n b.runs) ∙ ok.txn.is_held)).0
 
 module _ (layout : Layout) (setup : Setup) (settings : Settings) (statement : Bound) where
   abbrev R : Txn → List Fact → Reads → Type 0

@@ -2,11 +2,12 @@
 use Rattle.std.proofs.Common.{◌≡◌, ℕ, ◌+◌, ◌<◌, ◌≤◌, Bool, true, false, List, [], length, Option, Some, None, refl, sym, ap, ◌∙◌, subst, arith}
 use Rattle.std.specs.Prelude.{◌==◌, ◌^◌, if◌then◌else◌}
 use Rattle.std.specs.List.{AllByRecursion}
-use Rattle.std.proofs.lemmas.Bool.{eqb-true}
+use Rattle.std.proofs.lemmas.Bool.{both_ways, eqb-true}
 use mathlib.Core.Path.{fun_ext}
 use Rattle.tl_base.specs.declared.place.Settings.{Settings}
 use Rattle.tl_schema.specs.declared.catalog.Setup.{Setup}
 use Rattle.tl_cells.specs.declared.cell.Cell.{Cell as ShardCell}
+use Rattle.tl_cells.specs.Cells.{absent}
 use Rattle.tl_cells.specs.Place.{shard_of_key}
 use Rattle.tl_cells.specs.Serves.{stores}
 use Rattle.tl_descriptor.specs.Reading as sets
@@ -25,6 +26,7 @@ use Rattle.tl_protocol.proofs.Cells.{key_eq, put_at_other, put_at_same}
 use Rattle.tl_journal.specs.declared.event.Event.{Event}
 use Rattle.tl_journal.specs.Bytes.{commits_key, log_key}
 use Rattle.tl_journal.specs.Journal.{shard_log}
+use Rattle.tl_journal.specs.Law.{IsOther}
 use Rattle.tl_journal.specs.Served.{Parts, is_record_key, stored_commits, stored_log, stored_record}
 use Rattle.tl_journal.proofs.Fits.{EntryFits, SetFits, VersionsFit}
 use Rattle.tl_journal.proofs.StoreLogs.{cell_in, commits_no_log, commits_no_record, counter_in, log_keys, log_no_record, same_key_turned}
@@ -57,6 +59,7 @@ pub record Holds (few : ℕ) (bytes : Key → ShardCell) (count : ℕ) (p : Part
   pub cells : (k : Key) → is_record_key k ≡ true → RecordIs few (bytes k) (p.cells k)
   pub commits : CommitsIs few (bytes commits_key) p.commits
   pub logs : (tid : ℕ) → tid ≤ 2 ^ 62 → LogIs tid (bytes (log_key tid)) (p.logs tid)
+  pub others : (k : Key) → IsOther k → bytes k ≡ absent
   pub counter : count ≡ p.counter
 
 -- a cell that was stored stands in its own shard, and no stamp is above the number of stores
@@ -86,6 +89,7 @@ holds_more few more le bytes count p h = record {
   cells = λ k r. let c = h.cells k r in record { stamp = c.stamp; read = c.read; fits = versions_more few more le (p.cells k).versions c.fits };
   commits = record { stamp = h.commits.stamp; read = h.commits.read; fits = set_more few more le p.commits.finished h.commits.fits };
   logs = h.logs;
+  others = h.others;
   counter = h.counter;
 }
 
@@ -93,6 +97,14 @@ holds_more few more le bytes count p h = record {
 pub holds_same : (few : ℕ) (bytes others : Key → ShardCell) (count other : ℕ) (p : Parts) → ((k : Key) → others k ≡ bytes k) → other ≡ count → Holds few bytes count p → Holds few others other p
 holds_same few bytes others count other p e f h =
     subst (λ b. Holds few b other p) (sym (fun_ext e)) (subst (λ n. Holds few bytes n p) (sym f) h)
+
+-- a record key is no other key
+pub other_record : (key k : Key) → is_record_key key ≡ true → IsOther k → same_key key k ≡ false
+other_record key k is o = by (same_key key k) refl
+  where
+    by : (b : Bool) → same_key key k ≡ b → b ≡ false
+    by true e = absurd (both_ways (is_record_key key) (ap is_record_key (key_eq key k e) ∙ o.no_record) is)
+    by false e = refl
 
 -- ---- one cell is stored
 
@@ -120,6 +132,7 @@ module _ (few : ℕ) (bytes : Key → ShardCell) (count : ℕ) (p : Parts) (h : 
             (λ r. record { stamp = refl; read = read; fits = fits }) h.cells;
         commits = elsewhere (λ c. CommitsIs few c p.commits) key commits_key x bytes (same_key_turned key commits_key ∙ commits_no_record key is) h.commits;
         logs = λ tid le. elsewhere (λ c. LogIs tid c (p.logs tid)) key (log_key tid) x bytes (same_key_turned key (log_key tid) ∙ log_no_record tid key is) (h.logs tid le);
+        others = λ k o. put_at_other key k x bytes (other_record key k is o) ∙ h.others k o;
         counter = h.counter;
       }
 
@@ -134,6 +147,7 @@ module _ (few : ℕ) (bytes : Key → ShardCell) (count : ℕ) (p : Parts) (h : 
         cells = λ k r. elsewhere (λ c. RecordIs few c (p.cells k)) commits_key k x bytes (commits_no_record k r) (h.cells k r);
         commits = subst (λ c. CommitsIs few c y) (sym (put_at_same commits_key x bytes)) (record { stamp = refl; read = read; fits = fits });
         logs = λ tid le. elsewhere (λ c. LogIs tid c (p.logs tid)) commits_key (log_key tid) x bytes (commits_no_log tid) (h.logs tid le);
+        others = λ k o. put_at_other commits_key k x bytes o.no_commits ∙ h.others k o;
         counter = h.counter;
       }
 
@@ -146,6 +160,7 @@ module _ (few : ℕ) (bytes : Key → ShardCell) (count : ℕ) (p : Parts) (h : 
         cells = λ k r. elsewhere (λ c. RecordIs few c (p.cells k)) (log_key entry.tid) k x bytes (log_no_record entry.tid k r) (h.cells k r);
         commits = elsewhere (λ c. CommitsIs few c p.commits) (log_key entry.tid) commits_key x bytes (same_key_turned (log_key entry.tid) commits_key ∙ commits_no_log entry.tid) h.commits;
         logs = λ tid le. by tid le (entry.tid == tid) refl read;
+        others = λ k o. put_at_other (log_key entry.tid) k x bytes (o.no_log entry.tid fits.tid) ∙ h.others k o;
         counter = h.counter;
       }
     where

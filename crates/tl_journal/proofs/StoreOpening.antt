@@ -31,7 +31,7 @@ use Rattle.tl_journal.specs.Bytes.{commits_key, counter_key, log_key}
 use Rattle.tl_journal.specs.Journal.{opening_calls, opening_cells, shard_log, stores_from}
 use Rattle.tl_journal.specs.Served.{is_record_key, parts_of}
 use Rattle.tl_journal.proofs.Fits.{VersionsFit}
-use Rattle.tl_journal.proofs.Store.{AreStores, RecordIs, StoreIs, StoreOk, holds_same}
+use Rattle.tl_journal.proofs.Store.{AreStores, RecordIs, StoreIs, StoreOk, holds_same, other_record}
 use Rattle.tl_journal.proofs.StoreLogs.{cell_in, commits_no_log, commits_no_record, counter_in, log_no_record, same_key_turned}
 
 -- a row that can be stored
@@ -272,6 +272,11 @@ module _ (settings : Settings) (setup : Setup) where
           let none : looked (log_key tid) ≡ None = not_found (looked (log_key tid)) (subst (λ o. OpensAs (looked (log_key tid)) o) unwritten (others_open (log_key tid) (commits_no_log tid))) in
           let is : shown (log_key tid) ≡ absent = ap (λ (o : Option ShardCell). unwrap_or o absent) none in
           (ap (λ (c : ShardCell). c.stamp) is, ap (λ (c : ShardCell). c.value) is);
+      others = λ k o.
+          let unwritten : written k (opening_writes setup.catalog setup.rows) ≡ None =
+          none_written k (opening_writes setup.catalog setup.rows) fits (λ j r. other_record j k r o) in
+          let none : looked k ≡ None = not_found (looked k) (subst (λ x. OpensAs (looked k) x) unwritten (others_open k o.no_commits)) in
+          ap (λ (x : Option ShardCell). unwrap_or x absent) none;
       counter = refl;
     });
     stored = λ s.

@@ -31,17 +31,23 @@ use Rattle.tl_journal.proofs.StoreLogs.{cell_in}
 use Rattle.tl_journal.proofs.StorePage.{between_records, from_on, not_before}
 use Rattle.tl_journal.proofs.StorePages.{EntryOk, all_filtered, all_taken, below_each, each_entry, found_of, from_each, pages_are, pages_fit, pages_found, pages_rise, pages_stored, part_lacks, sorted_taken, taken_items, true_if, whole_lacks}
 
-abbrev Entry : Type 0
+abbrev pub Entry : Type 0
 Entry = Key × ShardCell
 
-abbrev entries_of : List Call → List Entry
+abbrev pub entries_of : List Call → List Entry
 entries_of log = finmap.entries (let m : Cells = finmap.from_entries (stores log) in m)
 
-abbrev in_range : Key → Key → Key → Bool
+abbrev pub in_range : Key → Key → Key → Bool
 in_range from before k = is_le (key_cmp from k) && is_lt (key_cmp k before)
 
-abbrev range_entries : List Call → Key → Key → List Entry
+abbrev pub range_entries : List Call → Key → Key → List Entry
 range_entries log from before = filter (λ (e : Entry). in_range from before e.0) (entries_of log)
+
+-- the entries of a range are in order
+pub range_sorted : (log : List Call) (from before : Key) → is_sorted key_cmp (range_entries log from before) ≡ true
+range_sorted log from before =
+    let m : Cells = finmap.from_entries (stores log) in
+    true_if (is_sorted key_cmp (range_entries log from before)) (is_sorted-where_key key_cmp (in_range from before) (entries_of log) (finmap.entries_sorted m))
 
 none_read : read_cell [] ≡ Some []
 unfolding read_cell
@@ -125,9 +131,7 @@ module _ (settings : Settings) (setup : Setup) (past : List Event) (p : Parts) (
 
   entries_sorted : is_sorted key_cmp entries ≡ true
   unfolding log entries
-  entries_sorted =
-      let m : Cells = finmap.from_entries (stores log) in
-      true_if (is_sorted key_cmp (range_entries log from before)) (is_sorted-where_key key_cmp (in_range from before) (entries_of log) (finmap.entries_sorted m))
+  entries_sorted = range_sorted log from before
 
   -- a key of the range that has no entry has no versions
   no_entry : (k : Key) → shard_of_key k settings.shards ≡ shard → is_lt (key_cmp k from) ≡ false → is_lt (key_cmp k before) ≡ true

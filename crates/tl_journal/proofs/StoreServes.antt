@@ -183,7 +183,7 @@ module _ (settings : Settings) (setup : Setup) (past : List Event) (e : Event) (
             after = drawn;
             serves = inl (is_heard, within (counter_in settings setup past) (2 ^ 62) t old, refl);
             store = event_summed settings setup past e (shard_of_key counter_key settings.shards) (record { request = store.Add counter_key 16; reply = answer }) is p h 16 refl (ap (added counter_key (store.Add counter_key 16)) eq) refl drawn
-                (record { cells = h.holds.cells; commits = h.holds.commits; logs = h.holds.logs; counter = ap (λ c. c + 16) old });
+                (record { cells = h.holds.cells; commits = h.holds.commits; logs = h.holds.logs; others = h.holds.others; counter = ap (λ c. c + 16) old });
             fits = subst (HeardFits (length past + 1)) (sym is_heard) tt;
           }
 

@@ -39,6 +39,7 @@ store_same settings setup past p after same h = record {
     cells = λ k r. subst (λ (f : Key → Cell). RecordIs (length past + 1) (cell_in settings setup past k) (f k)) (sym same.cells) (h.holds.cells k r);
     commits = subst (λ (c : CommitsCell). CommitsIs (length past + 1) (cell_in settings setup past commits_key) c) (sym same.commits) h.holds.commits;
     logs = λ tid le. subst (λ (f : ℕ → Option LogCell). LogIs tid (cell_in settings setup past (log_key tid)) (f tid)) (sym same.logs) (h.holds.logs tid le);
+    others = h.holds.others;
     counter = h.holds.counter ∙ sym same.counter;
   };
   stored = h.stored;

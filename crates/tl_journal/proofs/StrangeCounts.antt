@@ -219,11 +219,11 @@ module _ (settings : Settings) (setup : Setup) (s : ℕ) (past : List Event) whe
 -- ---- no shard is full
 
 -- how many events and opening rows there are at most
-record IsShort (setup : Setup) (past : List Event) : Type 0 where
+pub record IsShort (setup : Setup) (past : List Event) : Type 0 where
   pub events : length past < 2 ^ 32
   pub rows : length setup.rows < 2 ^ 32
 
-last_low : (settings : Settings) (setup : Setup) (s : ℕ) (past : List Event) → IsShort setup past → last_stamp 0 (shard_log settings setup s past) < greatest
+pub last_low : (settings : Settings) (setup : Setup) (s : ℕ) (past : List Event) → IsShort setup past → last_stamp 0 (shard_log settings setup s past) < greatest
 last_low settings setup s past short =
     let all : length (stores (shard_log settings setup s past)) ≤ length (shard_log settings setup s past) = stores_few (shard_log settings setup s past) in
     let many : length (shard_log settings setup s past) ≤ length setup.rows + 1 + length past = log_many settings setup s past in
@@ -281,16 +281,16 @@ module _ (layout : Layout) (script : Script) (settings : Settings) (past : List 
   setup : Setup
   setup = setup_of script settings
 
-  short : IsShort (setup_of script settings) past
+  pub short : IsShort (setup_of script settings) past
   short = record { events = omega arith; rows = rows }
 
-  answer_of : (ask : Ask) → is_of_shard ask ≡ true → e.place ≡ place_of settings ask → e.request ≡ written ask → (answer : StoreReply) × (e.reply ≡ reply.Store answer)
+  pub answer_of : (ask : Ask) → is_of_shard ask ≡ true → e.place ≡ place_of settings ask → e.request ≡ written ask → (answer : StoreReply) × (e.reply ≡ reply.Store answer)
   answer_of ask o at_place so =
       shard_reply settings ask e.reply o
       (is_call e.place (place_of settings ask) e.request (written ask) e.reply at_place so (at_event (λ (x : Event). IsCall x.place x.request x.reply) past e rest served.calls))
 
   -- the answer follows from the log of the shard
-  follows : (key : Key) (asked : StoreRequest) (answer : StoreReply) → e.place ≡ shard_at settings key → e.request ≡ request.Store asked → e.reply ≡ reply.Store answer
+  pub follows : (key : Key) (asked : StoreRequest) (answer : StoreReply) → e.place ≡ shard_at settings key → e.request ≡ request.Store asked → e.reply ≡ reply.Store answer
       → answer ≡ reply_after 0 (shard_log settings (setup_of script settings) (shard_of_key key settings.shards) past) asked
   follows key asked answer at_place so told =
       follows_log settings (setup_of script settings) past e (parts_of s.world) e.node s.store few (events_answered script settings past e rest served)

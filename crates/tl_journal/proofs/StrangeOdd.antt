@@ -1,8 +1,8 @@
 -- No place of a run tells a transaction number where it can't stand.
 use Rattle.std.proofs.Common.{◌≡◌, inl, inr, ℕ, ◌+◌, ◌≤◌, ◌^◌, Bool, true, false, List, [], ◌∷◌, ◌++◌, Option, Some, None, refl, sym, ap, ◌∙◌, subst, arith}
-use Rattle.std.specs.Prelude.{◌==◌, not, nat_lt}
-use Rattle.std.specs.List.{list_all, list_any}
-use Rattle.std.proofs.lemmas.Bool.{and_from, both_ways, eq-eqb, or_from}
+use Rattle.std.specs.Prelude.{not, nat_lt}
+use Rattle.std.specs.List.{list_any}
+use Rattle.std.proofs.lemmas.Bool.{both_ways, eq-eqb, or_from}
 use Rattle.std.proofs.lemmas.Bool.Decides.{nat_tests}
 use Rattle.tl_base.specs.declared.place.Settings.{Settings}
 use Rattle.tl_schema.specs.declared.catalog.Setup.{Setup}
@@ -17,7 +17,7 @@ use Rattle.tl_write.specs.Own.{is_rising}
 use Rattle.tl_isolation.specs.declared.bound.Bound.{Bound}
 use Rattle.tl_isolation.specs.declared.entry.Entry.{Entry}
 use Rattle.tl_isolation.specs.declared.state.SiState.{SiState}
-use Rattle.tl_protocol.specs.Store.{Key, CommitsCell, LogCell}
+use Rattle.tl_protocol.specs.Store.{CommitsCell, LogCell}
 use Rattle.tl_protocol.specs.World.{Txn, Fact, Commit, Undo, Decision, Phase, World, At}
 use Rattle.tl_protocol.specs.World as protocol
 use Rattle.tl_protocol.specs.Run.{Layout}
@@ -31,10 +31,10 @@ use Rattle.tl_journal.specs.Asks.{asks, asks_doing, asks_storing}
 use Rattle.tl_journal.specs.Node.{Storing, Claimed, Lost, Doing, Noted, Drawing, Inside, Stores, Closing, Recovering, ReadingLog, Node}
 use Rattle.tl_journal.specs.Reads.{Reads}
 use Rattle.tl_journal.specs.Served as served
-use Rattle.tl_journal.specs.Served.{Answers, Parts, Serves, is_record_key, parts_of}
-use Rattle.tl_journal.specs.Strange.{greatest_tid, is_odd_for}
+use Rattle.tl_journal.specs.Served.{Answers, Parts, Serves, parts_of}
+use Rattle.tl_journal.specs.ForKey.{greatest_tid}
+use Rattle.tl_journal.specs.Strange.{is_odd_for}
 use Rattle.tl_journal.proofs.Attempts.{by_store}
-use Rattle.tl_journal.proofs.Fits.{KeysFit, LogFits}
 use Rattle.tl_journal.proofs.Meets.{Before, PhaseIs, attempt_of}
 use Rattle.tl_journal.proofs.OwnWrites.{not_before}
 use Rattle.tl_journal.proofs.Sizes.{AreTids, DoingFits, ToldFits}
@@ -49,10 +49,6 @@ none_above : (tids : List ℕ) → AreTids tids → list_any (nat_lt greatest_ti
 none_above [] h = refl
 none_above (tid ∷ tids) h = or_from (nat_lt greatest_tid tid) (list_any (nat_lt greatest_tid) tids) (not_above tid greatest_tid h.0) (none_above tids h.1)
 
-all_records : (keys : List Key) → KeysFit keys → list_all is_record_key keys ≡ true
-all_records [] h = refl
-all_records (key ∷ keys) h = and_from (is_record_key key) (list_all is_record_key keys) h.0.is_record (all_records keys h.1)
-
 -- what a manager tells fits
 noted_odd : (seen : TidSet) (heard : Heard) → ToldFits heard → is_odd_for (Noted seen) heard ≡ false
 noted_odd seen (Told (replied.Began tid snapshot floor)) f = or_from (nat_lt greatest_tid tid) (has snapshot tid) (not_above tid greatest_tid f.0) f.1
@@ -62,15 +58,14 @@ recovering_odd : (c : Claimed) (heard : Heard) → ToldFits heard → is_odd_for
 recovering_odd c (Told (replied.Orphaned tids)) f = none_above tids f
 recovering_odd c heard f = refl
 
--- what stands in a log cell: its own number, and record keys
+-- what stands in a log cell is of the transaction of its key
 abbrev pub OwnLog : ℕ → Option LogCell → Type 0
 OwnLog tid None = Unit {0}
 OwnLog tid (Some log) = log.entry.tid ≡ tid
 
-log_odd : (c : Claimed) (o : Lost) (log : Option LogCell) → OwnLog o.tid log → LogFits log → is_odd_for (ReadingLog c o) (Log log) ≡ false
-log_odd c o None own fits = refl
-log_odd c o (Some log) own fits =
-    or_from (not (log.entry.tid == o.tid)) (not (list_all is_record_key log.entry.writes)) (ap not (eq-eqb log.entry.tid o.tid own)) (ap not (all_records log.entry.writes fits.keys))
+log_odd : (c : Claimed) (o : Lost) (log : Option LogCell) → OwnLog o.tid log → is_odd_for (ReadingLog c o) (Log log) ≡ false
+log_odd c o None own = refl
+log_odd c o (Some log) own = ap not (eq-eqb log.entry.tid o.tid own)
 
 -- ---- the commits cell
 
@@ -84,7 +79,7 @@ module _ (settings : Settings) (p : Parts) where
   seen_store found stamp heard done after s = by_store (λ x q. SeenIs p.commits x) found stamp heard done p after (λ fresh same above. tt) (λ moved. tt) tt s
 
   -- what a manager replies is told
-  told_by : (m : ℕ) (asked : ManagerRequest) (heard : Heard) (after : Parts) → Answers settings p m asked heard after → (reply : ManagerReply) × (heard ≡ Told reply)
+  pub told_by : (m : ℕ) (asked : ManagerRequest) (heard : Heard) (after : Parts) → Answers settings p m asked heard after → (reply : ManagerReply) × (heard ≡ Told reply)
   told_by m (manager.Begin node seen) heard after (inl v) = (_, v.2)
   told_by m (manager.Begin node seen) heard after (inr v) = (_, v.0)
   told_by m (manager.Range low high) heard after v = (_, v.0)
@@ -161,7 +156,7 @@ module _ (R : Txn → List Fact → Reads → Type 0) (layout : Layout) (setup :
   drawing_odd seen heard after (inr v) = subst (λ (x : Heard). is_odd_for (Drawing seen) x ≡ false) (sym v.0) refl
 
   doing_odd : (few : ℕ) (statement : Bound) (doing : Doing) (heard : Heard) (after : Parts) → PhaseIs R doing (w.phases n) → DoingFits few doing → Replied settings setup.catalog w n (asks_doing settings setup.catalog node statement doing) heard after
-      → ToldFits heard → SeenIs w.commits heard → ((tid : ℕ) → tid ≤ 2 ^ 62 → OwnLog tid (w.logs tid) × LogFits (w.logs tid)) → is_odd_for doing heard ≡ false
+      → ToldFits heard → SeenIs w.commits heard → ((tid : ℕ) → tid ≤ 2 ^ 62 → OwnLog tid (w.logs tid)) → is_odd_for doing heard ≡ false
   doing_odd few statement (Noted seen) heard after p fits v told seen_so logs = noted_odd seen heard told
   doing_odd few statement (Drawing seen) heard after p fits v told seen_so logs = drawing_odd seen heard after v.0
   doing_odd few statement (Inside t) heard after p fits v told seen_so logs =
@@ -170,12 +165,11 @@ module _ (R : Txn → List Fact → Reads → Type 0) (layout : Layout) (setup :
   doing_odd few statement (Closing t d None) heard after p fits v told seen_so logs = closing_odd w.commits t d heard seen_so (not_committed t.tid (closing_unfinished t d p))
   doing_odd few statement (Recovering c) heard after p fits v told seen_so logs = recovering_odd c heard told
   doing_odd few statement (ReadingLog c o) heard after p fits v told seen_so logs =
-      let log = logs o.tid fits.tid in
-      subst (λ (x : Heard). is_odd_for (ReadingLog c o) x ≡ false) (sym v.0.0) (log_odd c o (w.logs o.tid) log.0 log.1)
+      subst (λ (x : Heard). is_odd_for (ReadingLog c o) x ≡ false) (sym v.0.0) (log_odd c o (w.logs o.tid) (logs o.tid fits.tid))
   doing_odd few statement doing heard after p fits v told seen_so logs = refl
 
   pub not_odd_at : (few : ℕ) (ask : Ask) (heard : Heard) (after : Parts) → asks settings setup.catalog node ≡ Some ask → DoingFits few node.doing → Serves settings (parts_of w) n ask heard after → HasRoom ask heard → ToldFits heard
-      → ((tid : ℕ) → tid ≤ 2 ^ 62 → OwnLog tid (w.logs tid) × LogFits (w.logs tid)) → is_odd_for node.doing heard ≡ false
+      → ((tid : ℕ) → tid ≤ 2 ^ 62 → OwnLog tid (w.logs tid)) → is_odd_for node.doing heard ≡ false
   not_odd_at few ask heard after asked fits serves room told logs =
       by node.todo (subst (λ (o : Option Ask). Replied settings setup.catalog w n o heard after) (sym asked) (serves, room))
     where

@@ -1,11 +1,14 @@
 -- No place of a run replies anything strange.
-use Rattle.std.proofs.Common.{◌≡◌, inl, inr, ℕ, ◌+◌, ◌<◌, ◌≤◌, ◌^◌, false, List, [], ◌∷◌, ◌++◌, length, Option, Some, None, sym, ap, ◌∙◌, subst, arith}
+use Rattle.std.proofs.Common.{◌≡◌, inl, inr, ℕ, ◌+◌, ◌<◌, ◌≤◌, ◌^◌, Bool, true, false, List, [], ◌∷◌, ◌++◌, length, Option, Some, None, sym, ap, ◌∙◌, subst, arith}
 use Rattle.std.specs.List.{AllByRecursion}
-use Rattle.std.proofs.lemmas.Bool.{both_ways, or_from}
+use Rattle.std.proofs.lemmas.Bool.{and_from, both_ways, or_from}
 use Rattle.std.proofs.lemmas.List.{length-append}
-use Rattle.std.specs.Prelude.{◌==◌}
+use Rattle.std.specs.Prelude.{◌==◌, ◌||◌, if◌then◌else◌}
 use Rattle.tl_base.specs.declared.place.Settings.{Settings}
+use Rattle.tl_schema.specs.declared.catalog.Catalog.{Catalog}
 use Rattle.tl_cells.specs.declared.cell.Cell.{Cell as ShardCell}
+use Rattle.tl_manager.specs.declared.request.Reply.{Reply}
+use Rattle.tl_isolation.specs.declared.entry.Answer.TheVariants as answer
 use Rattle.tl_isolation.specs.declared.script.Script.{Script}
 use Rattle.tl_isolation.specs.declared.script.Session.{Session}
 use Rattle.tl_isolation.specs.History.{state_after}
@@ -14,29 +17,31 @@ use Rattle.tl_isolation.proofs.Lookups.{found}
 use Rattle.tl_protocol.specs.Store.{LogCell}
 use Rattle.tl_protocol.proofs.Frames.{some_same}
 use Rattle.tl_journal.specs.declared.event.Event.{Event}
-use Rattle.tl_journal.specs.Ask.{Ask}
+use Rattle.tl_journal.specs.Ask.{Ask, Heard, Strange}
 use Rattle.tl_journal.specs.Asks.{asks}
 use Rattle.tl_journal.specs.Binding.{IsBound, StatementFits}
 use Rattle.tl_journal.specs.Bytes.{heard, log_key, place_of, written}
 use Rattle.tl_journal.specs.Journal.{IsEvent, entries_told, has_vanished, is_post, node_after, session_of}
 use Rattle.tl_journal.specs.Law.{NothingStrange}
 use Rattle.tl_journal.specs.Node.{Node}
-use Rattle.tl_journal.specs.Strange.{is_odd_for, is_stopped}
-use Rattle.tl_journal.specs.Takes.{takes}
+use Rattle.tl_journal.specs.Strange.{is_odd_for, is_sound, may_reply, sound_heard, stops_at}
 use Rattle.tl_journal.proofs.Heeded.{heeded}
 use Rattle.tl_journal.proofs.Journals.{stood_at}
 use Rattle.tl_journal.proofs.Logs.{along_at}
 use Rattle.tl_journal.proofs.Opens.{layout_of}
 use Rattle.tl_journal.proofs.Posted.{before_stood}
 use Rattle.tl_journal.proofs.Present.{ReadsFor}
+use Rattle.tl_journal.proofs.Shards.{asks_at}
+use Rattle.tl_journal.proofs.Sizes.{asks_fit}
 use Rattle.tl_journal.proofs.Store.{LogIs}
 use Rattle.tl_journal.proofs.StoreLogs.{cell_in}
-use Rattle.tl_journal.proofs.StoreServes.{log_fits}
 use Rattle.tl_journal.proofs.Stood.{Stood}
 use Rattle.tl_journal.proofs.StrangeCounts.{HasRoom, has_room}
 use Rattle.tl_journal.proofs.StrangeLefts.{LeftIs, left_after}
 use Rattle.tl_journal.proofs.StrangeOdd.{OwnLog, not_odd_at}
+use Rattle.tl_journal.proofs.StrangeSound.{sound_at}
 use Rattle.tl_journal.proofs.StrangeStops.{goes_on_at}
+use Rattle.tl_journal.proofs.StrangeTells.{may_be}
 
 -- an event is the request that its node, which runs, asks next
 record Makes (settings : Settings) (past : List Event) (e : Event) (ask : Ask) : Type 0 where
@@ -70,8 +75,14 @@ statements_fit : (script : Script) (settings : Settings) (n : ℕ) (session : Se
 statements_fit script settings n session bound e =
     found (λ (s : Session). AllByRecursion (StatementFits script.catalog) s.statements) (λ (s : Session). s.node == n) script.sessions session bound.statements e
 
+-- what is heard of a reply that may be, and is sound, is what it says
+both_pass : (catalog : Catalog) (ask : Ask) (told : Reply) → may_reply ask told ≡ true → is_sound catalog ask (heard ask told) ≡ true
+    → sound_heard catalog ask told ≡ heard ask told
+both_pass catalog ask told may sound =
+    ap (λ (b : Bool). if b then heard ask told else Strange) (and_from (may_reply ask told) (is_sound catalog ask (heard ask told)) may sound)
+
 pub nothing_strange : NothingStrange
-nothing_strange script settings past e rest run rows request session is_session ask asked told =
+nothing_strange script settings past e rest run rows request session is_session ask asked =
     let events : length (past ++ e ∷ rest) < 2 ^ 32 = run.few in
     let both : length (past ++ e ∷ rest) ≡ length past + length (e ∷ rest) = length-append past (e ∷ rest) in
     let few : length past + 1 < 2 ^ 32 = omega arith in
@@ -85,12 +96,17 @@ nothing_strange script settings past e rest run rows request session is_session 
     let room : HasRoom ask (heard ask e.reply) = has_room (layout_of script settings) script settings past e rest s run.shards few rows run.trace.served run.trace.events_are ask m.stands_at m.bytes in
     let left : LeftIs node.doing = left_after settings script past session (statements_fit script settings e.node session run.bound is_session) in
     let R = ReadsFor settings script.catalog node.todo in
-    or_from (is_stopped (takes settings script.catalog node (heard ask e.reply) told).doing) (is_odd_for node.doing (heard ask e.reply))
-    (goes_on_at R (layout_of script settings) (setup_of script settings) settings s.world (state_after (setup_of script settings) (entries_told past)) (entries_told past) e.node node b
-    ask (heard ask e.reply) h.after told asked left h.serves room)
-    (not_odd_at R (layout_of script settings) (setup_of script settings) settings s.world (state_after (setup_of script settings) (entries_told past)) (entries_told past) e.node node b
+    let state = state_after (setup_of script settings) (entries_told past) in
+    let may : may_reply ask e.reply ≡ true =
+    may_be (layout_of script settings) script settings past e rest s run.shards few rows run.trace.served run.trace.events_are ask
+    (asks_at settings script.catalog node ask run.shards stands.shards asked) (asks_fit settings script.catalog (length past) node ask stands.fits asked) m.stands_at m.bytes in
+    let sound : is_sound script.catalog ask (heard ask e.reply) ≡ true =
+    sound_at R (layout_of script settings) (setup_of script settings) settings s.world state (entries_told past) e.node node b ask (heard ask e.reply) h.after asked h.serves in
+    let same : sound_heard script.catalog ask e.reply ≡ heard ask e.reply = both_pass script.catalog ask e.reply may sound in
+    subst (λ (x : Heard). (stops_at settings script.catalog node x || is_odd_for node.doing x) ≡ false) (sym same)
+    (or_from (stops_at settings script.catalog node (heard ask e.reply)) (is_odd_for node.doing (heard ask e.reply))
+    (goes_on_at R (layout_of script settings) (setup_of script settings) settings s.world state (entries_told past) e.node node b
+    ask (heard ask e.reply) h.after answer.Begun asked left h.serves room)
+    (not_odd_at R (layout_of script settings) (setup_of script settings) settings s.world state (entries_told past) e.node node b
     (length past) ask (heard ask e.reply) h.after asked stands.fits.doing h.serves room h.told
-    (λ tid small.
-    let c : ShardCell = cell_in settings (setup_of script settings) past (log_key tid) in
-    let is : LogIs tid c (s.world.logs tid) = s.store.holds.logs tid small in
-    (log_own tid c (s.world.logs tid) is, log_fits tid c (s.world.logs tid) is)))
+    (λ tid small. log_own tid (cell_in settings (setup_of script settings) past (log_key tid)) (s.world.logs tid) (s.store.holds.logs tid small))))

@@ -59,14 +59,14 @@ module _ (catalog : Catalog) where
   said_runs node statement t Opened rows told = refl
   said_runs node statement t (Answering before) rows told = refl
 
-  on_runs : (node : Node) (statement : Bound) (t : Txn) (reads : Reads) (told : Answer) → Runs (goes_on catalog node statement t reads told)
+  pub on_runs : (node : Node) (statement : Bound) (t : Txn) (reads : Reads) (told : Answer) → Runs (goes_on catalog node statement t reads told)
   on_runs node statement t reads told = by reads.left
     where
       by : (left : List Read) → Runs (goes_on catalog node statement t (record reads { left = left }) told)
       by [] = said_runs node statement t t.stage (tables_read reads) told
       by (read ∷ left) = refl
 
-  idles_runs : (node : Node) (statement : Bound) (t : Txn) (reads : Reads) (told : Answer) → Runs (idles catalog node statement t reads told)
+  pub idles_runs : (node : Node) (statement : Bound) (t : Txn) (reads : Reads) (told : Answer) → Runs (idles catalog node statement t reads told)
   idles_runs node bound.Begin t reads told = refl
   idles_runs node (bound.Recover gone) t reads told = refl
   idles_runs node (bound.Select query) t reads told = said_runs node (bound.Select query) t t.stage (tables_read reads) told

@@ -1,6 +1,6 @@
 -- What the reader of scripts lets through: statements and opening rows that fit their tables, keys and rows of a bounded size.
-use Rattle.std.specs.Prelude.{◌≡◌, ℕ, ◌<◌, ◌≤◌, ◌^◌, zero, suc, Bool, true, false, List, [], ◌∷◌, length, Option, Some, None}
-use Rattle.std.specs.List.{AllByRecursion}
+use Rattle.std.specs.Prelude.{◌≡◌, ℕ, ◌==◌, ◌<◌, ◌≤◌, ◌^◌, zero, suc, Bool, true, false, List, [], ◌∷◌, length, Option, Some, None}
+use Rattle.std.specs.List.{AllByRecursion, list_any}
 use Rattle.tl_base.specs.declared.place.Settings.{Settings}
 use Rattle.tl_values.specs.declared.value.Value.{Value}
 use Rattle.tl_schema.specs.declared.catalog.Catalog.{Catalog}
@@ -10,16 +10,20 @@ use Rattle.tl_schema.specs.Row.{row_spelling}
 use Rattle.tl_versions.specs.Cell.{AreChanges}
 use Rattle.tl_algebra.specs.declared.edit.Edit.{Edit}
 use Rattle.tl_algebra.specs.declared.edit.Edit.TheVariants.{Insert, Update, Delete}
+use Rattle.tl_algebra.specs.declared.edit.SetColumn.{SetColumn}
 use Rattle.tl_algebra.specs.declared.query.Join.{Join}
+use Rattle.tl_algebra.specs.declared.query.Query.{Query}
 use Rattle.tl_write.specs.declared.write.Write.{Write}
 use Rattle.tl_write.specs.Change.{number_of}
 use Rattle.tl_isolation.specs.declared.bound.Bound.{Bound}
 use Rattle.tl_isolation.specs.declared.bound.Bound.TheVariants as bound
 use Rattle.tl_isolation.specs.declared.script.Script.{Script}
 use Rattle.tl_isolation.specs.declared.script.Session.{Session}
+use Rattle.tl_isolation.specs.declared.script.Vanish.{Vanish}
+use Rattle.tl_isolation.specs.Queries.{SuitsQuery}
 use Rattle.tl_isolation.specs.Script.{setup_of}
 use Rattle.tl_isolation.specs.Tables.{OpensFitting, Suits, opening_writes, table_of}
-use Rattle.tl_plan.specs.Law.{ComparesValues, HasKey}
+use Rattle.tl_plan.specs.Law.{HasKey}
 use Rattle.tl_protocol.specs.Move.{is_empty}
 use Rattle.tl_protocol.specs.Store.{Key}
 use Rattle.tl_journal.specs.Served.{is_record_key}
@@ -52,29 +56,47 @@ pub record WriteFits (w : Write) : Type 0 where
   pub row : AreChanges w.row
   pub brief : IsBrief w.row
 
--- the literals of WHERE are values
-abbrev pub EditCompares : Edit → Type 0
-EditCompares (Insert number rows) = Unit {0}
-EditCompares (Update number sets where_) = ComparesValues where_
-EditCompares (Delete number where_) = ComparesValues where_
-
 -- a table has so few columns that its rows and record keys have a spelling
 pub record TableFits (table : Table) : Type 0 where
   pub columns : length table.columns < 256
   pub key : length table.key ≤ 32
 
+-- a query of tables with primary keys
+pub record QueryFits (catalog : Catalog) (query : Query) : Type 0 where
+  pub suits : SuitsQuery catalog query
+  pub keyed : AllByRecursion (λ (join : Join). IsKeyed (table_of catalog join.table)) query.from
+
+-- no two of these have one number
+abbrev pub EachOnce : {A : Type 0} → (A → ℕ) → List A → Type 0
+EachOnce number_in [] = Unit {0}
+EachOnce number_in (x ∷ xs) = (list_any (λ y. number_in x == number_in y) xs ≡ false) × EachOnce number_in xs
+
+-- SET names no column twice
+abbrev pub SetsOnce : Edit → Type 0
+SetsOnce (Insert number rows) = Unit {0}
+SetsOnce (Update number sets where_) = EachOnce (λ (set : SetColumn). set.column) sets
+SetsOnce (Delete number where_) = Unit {0}
+
+-- a change of a table with a primary key
+pub record EditFits (catalog : Catalog) (edit : Edit) : Type 0 where
+  pub suits : Suits catalog edit
+  pub once : SetsOnce edit
+  pub keyed : IsKeyed (table_of catalog (number_of edit))
+  pub table : TableFits (table_of catalog (number_of edit))
+
 -- a statement that binding lets through
 abbrev pub StatementFits : Catalog → Bound → Type 0
-StatementFits catalog (bound.Select query) =
-    ComparesValues query.filter × AllByRecursion (λ (join : Join). IsKeyed (table_of catalog join.table)) query.from
-StatementFits catalog (bound.Change edit) =
-    Suits catalog edit × IsKeyed (table_of catalog (number_of edit)) × EditCompares edit × TableFits (table_of catalog (number_of edit))
+StatementFits catalog (bound.Select query) = QueryFits catalog query
+StatementFits catalog (bound.Change edit) = EditFits catalog edit
 StatementFits catalog (bound.Recover gone) = (1 ≤ gone) × (gone ≤ 16)
 StatementFits catalog statement = Unit {0}
 
 -- a script that the reader lets through
 pub record IsBound (script : Script) (settings : Settings) : Type 0 where
+  pub tables : length script.catalog.tables ≤ 64
   pub nodes : AllByRecursion (λ (s : Session). (1 ≤ s.node) × (s.node ≤ 16)) script.sessions
+  pub sessions : EachOnce (λ (s : Session). s.node) script.sessions
+  pub vanishes : EachOnce (λ (v : Vanish). v.node) script.vanishes
   pub statements : AllByRecursion (λ (s : Session). AllByRecursion (StatementFits script.catalog) s.statements) script.sessions
   pub opening : OpensFitting (setup_of script settings)
   pub writes : AllByRecursion WriteFits (opening_writes script.catalog script.rows)

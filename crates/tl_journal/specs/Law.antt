@@ -19,7 +19,6 @@ use Rattle.tl_manager.specs.Serves.{active_after, notice_after}
 use Rattle.tl_manager.specs.Transactions.{tids_of}
 use Rattle.tl_write.specs.declared.write.Write.{Write}
 use Rattle.tl_write.specs.Tables.{is_in}
-use Rattle.tl_isolation.specs.declared.entry.Answer.{Answer}
 use Rattle.tl_isolation.specs.declared.script.Script.{Script}
 use Rattle.tl_isolation.specs.declared.script.Session.{Session}
 use Rattle.tl_isolation.specs.declared.state.Commit.{Commit}
@@ -28,7 +27,7 @@ use Rattle.tl_isolation.specs.Script.{IsAnswered, SpeaksAt, setup_of}
 use Rattle.tl_isolation.specs.Tables.{table_of}
 use Rattle.tl_protocol.specs.Next.{owed}
 use Rattle.tl_protocol.specs.Stands.{HasOneMender, StandsFor}
-use Rattle.tl_protocol.specs.Store.{Key, LogCell}
+use Rattle.tl_protocol.specs.Store.{Key, LogCell, same_key}
 use Rattle.tl_protocol.specs.Told.{count_in}
 use Rattle.tl_protocol.specs.World.{World}
 use Rattle.tl_versions.specs.Reading.{read_cell}
@@ -36,7 +35,7 @@ use Rattle.tl_journal.specs.declared.event.Event.{Event}
 use Rattle.tl_journal.specs.Ask.{Ask}
 use Rattle.tl_journal.specs.Asks.{asks}
 use Rattle.tl_journal.specs.Binding.{IsBound}
-use Rattle.tl_journal.specs.Bytes.{commits_key, heard, home_of, log_key}
+use Rattle.tl_journal.specs.Bytes.{commits_key, home_of, log_key}
 use Rattle.tl_journal.specs.Journal.{entries_told, has_vanished, is_post, manager_log, node_after, session_of, shard_log}
 use Rattle.tl_journal.specs.Node.{Doing, Inside, Reading, owed_by}
 use Rattle.tl_journal.specs.Run.{IsTrace}
@@ -48,7 +47,9 @@ use Rattle.tl_journal.specs.Strange.{is_strange}
 pub record IsRun (script : Script) (settings : Settings) (events : List Event) : Type 0 where
   pub bound : IsBound script settings
   pub shards : 1 ≤ settings.shards
+  pub few_shards : settings.shards ≤ 16
   pub managers : 1 ≤ settings.managers
+  pub few_managers : settings.managers ≤ 4
   pub few : length events < 2 ^ 32
   pub trace : IsTrace script settings events
 
@@ -96,13 +97,22 @@ IsNotice (Some nodes) (Some set) = AreNodes nodes set
 abbrev pub bytes_at : Script → Settings → List Event → Key → List ℕ
 bytes_at script settings past key = (cell_at (shard_log settings (setup_of script settings) (shard_of_key key settings.shards) past) key).value
 
+-- a key that is not that of a record, of the commits cell or of a log cell
+pub record IsOther (key : Key) : Type 0 where
+  pub no_record : is_record_key key ≡ false
+  pub no_commits : same_key commits_key key ≡ false
+  pub no_log : (tid : ℕ) → tid ≤ 2 ^ 62 → same_key (log_key tid) key ≡ false
+
 -- the shards, the managers and the nodes hold after these events what this world has: of each record its versions, the set
 -- of the finished transactions, the log cells, the active transactions with their snapshots, the death notices, and whom a
 -- running node is to recover
 pub record Holds (script : Script) (settings : Settings) (past : List Event) (w : World) : Type 0 where
+  pub catalog : w.catalog ≡ script.catalog
   pub records : (key : Key) → is_record_key key ≡ true → read_cell (bytes_at script settings past key) ≡ Some (w.cells key).versions
   pub commits : sets.read_set (bytes_at script settings past commits_key) ≡ Some w.commits.finished
   pub logs : (tid : ℕ) → tid ≤ 2 ^ 62 → IsLogCell tid (bytes_at script settings past (log_key tid)) (w.logs tid)
+  -- no cell stands under another key
+  pub others : (key : Key) → IsOther key → bytes_at script settings past key ≡ []
   pub active : (m : ℕ) → m < settings.managers → AreActive settings w.active m (active_after (manager_log m past))
   pub notices : (n : ℕ) → IsNotice (w.notices n) (notice_after (manager_log (home_of settings n) past) n)
   pub vanished : (n : ℕ) → w.gone n ≡ has_vanished past n
@@ -132,14 +142,15 @@ FirstCommits = (script : Script) (settings : Settings) (past : List Event) (e : 
     → (tid : ℕ) (snapshot floor : TidSet) → e.reply ≡ reply.Manager (manager.Began tid snapshot floor)
     → AreFirst snapshot (state_after (setup_of script settings) (entries_told past)).commits
 
--- no place replies anything strange, where fewer than 2^32 rows open the tables: at a reply the node that asked doesn't stop,
--- whatever it answers, and the reply holds no transaction number where none can stand
+-- no place replies anything strange, where fewer than 2^32 rows open the tables: each reply is one that a place may give for the
+-- request, each cell is a cell for its key, the node that asked doesn't stop at it, whatever it answers, and it holds no
+-- transaction number where none can stand
 abbrev pub NothingStrange : Type 0
 NothingStrange = (script : Script) (settings : Settings) (past : List Event) (e : Event) (rest : List Event) → IsRun script settings (past ++ e ∷ rest)
     → length script.rows < 2 ^ 32 → is_post e.request ≡ false
     → (session : Session) → session_of script e.node ≡ Some session
     → (ask : Ask) → asks settings script.catalog (node_after settings script past session) ≡ Some ask
-    → (told : Answer) → is_strange settings script.catalog (node_after settings script past session) (heard ask e.reply) told ≡ false
+    → is_strange settings script.catalog (node_after settings script past session) ask e.reply ≡ false
 
 -- what a transaction that takes statements has written
 abbrev pub own_in : Doing → List Write

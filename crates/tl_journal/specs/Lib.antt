@@ -11,6 +11,7 @@ pub mod Served
 pub mod Binding
 pub mod Schedule
 pub mod Run
+pub mod ForKey
 pub mod Strange
 pub mod Law
 pub mod Outcome

@@ -1,5 +1,6 @@
 ghost use Rattle.tl_journal.specs.Law.{EachIsMended, FirstCommits, NothingStrange, OneHistory, OwnRowsStandUnderKeys, SpeaksScript, SpeaksWhole, StoreStands};
 ghost use Rattle.tl_journal.specs.Promises.{AnswersAll, NeverConflicts};
+ghost use Rattle.tl_journal.specs.Strange.{HeardAsSaid, StopsAlike, StopsAtStrange};
 
 use tl_isolation::histories_keep_their_promises;
 
@@ -24,3 +25,10 @@ pub fn runs_are_complete()
     every_journal_is_one_history();
     histories_keep_their_promises();
 }
+
+/// At a strange reply a node stops, and of any other it hears what the reply says.
+pub fn strange_replies_stop()
+    ensures stops { StopsAtStrange }
+    ensures heard { HeardAsSaid }
+    ensures alike { StopsAlike }
+{}

@@ -6,4 +6,4 @@ mod event;
 mod law;
 
 pub use event::{Event, Journal};
-pub use law::{every_journal_is_one_history, runs_are_complete};
+pub use law::{every_journal_is_one_history, runs_are_complete, strange_replies_stop};

@@ -1,3 +1,4 @@
+pub mod Alike
 pub mod Accesses
 pub mod Bounds
 pub mod Parts

@@ -140,7 +140,7 @@ parts_True c row (layer.And parts) e h =
 parts_True c row (layer.Or parts) e h = rw e (h, tt)
 
 -- what is made of some of a list meets what each of these does
-filter_map_all : {A B : Type 0} (f : A → Option B) (P : A → Type 0) (Q : B → Type 0) → ((x : A) → P x → (y : B) → f x ≡ Some y → Q y) → (xs : List A) → AllByRecursion P xs → AllByRecursion Q (filter_map f xs)
+pub filter_map_all : {A B : Type 0} (f : A → Option B) (P : A → Type 0) (Q : B → Type 0) → ((x : A) → P x → (y : B) → f x ≡ Some y → Q y) → (xs : List A) → AllByRecursion P xs → AllByRecursion Q (filter_map f xs)
 filter_map_all {A} {B} f P Q h [] all = tt
 filter_map_all {A} {B} f P Q h (x ∷ xs) all = one (f x) refl (filter_map_all f P Q h xs all.1)
   where

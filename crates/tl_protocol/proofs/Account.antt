@@ -1,9 +1,10 @@
 -- Statements on one table, account (id INT PRIMARY KEY, balance INT NOT NULL), with what they come to.
 use Rattle.std.proofs.Common.{◌≡◌, ℕ, ◌^◌, ℤ, pos, negsuc, Bool, true, false, List, [], ◌∷◌, Option, Some, None, refl, sym, ap, ◌∙◌, subst, arith}
-use Rattle.std.specs.Prelude.{◌==◌, ◌&&◌, option_and_then, slice_set, if◌then◌else◌}
+use Rattle.std.specs.Prelude.{◌==◌, ◌&&◌, ◌||◌, option_and_then, slice_set, if◌then◌else◌}
 use Rattle.std.specs.List.{AllByRecursion, cons_option}
 use Rattle.std.proofs.lemmas.Bool.{ltb-true}
 use Rattle.tl_values.specs.declared.value.Comparison.TheVariants as comparison
+use Rattle.tl_values.specs.declared.value.Kind.{Kind}
 use Rattle.tl_values.specs.declared.value.Kind.TheVariants as kind
 use Rattle.tl_values.specs.declared.value.Value.{Value}
 use Rattle.tl_values.specs.declared.value.Value.TheVariants as value
@@ -32,14 +33,15 @@ use Rattle.tl_algebra.specs.declared.query.Query.{Query}
 use Rattle.tl_algebra.specs.Group.{groups}
 use Rattle.tl_algebra.specs.Select.{before, each, first_of, line_of, lines_of, selected, with_keys}
 use Rattle.tl_algebra.specs.Truth.{is_true, lets_through, truth_layer, truth_of}
-use Rattle.tl_algebra.specs.Value.{calculated, chained, figure, fits, value_layer, value_of}
+use Rattle.tl_algebra.specs.Value.{calculated, chained, fits, value_layer, value_of}
 use Rattle.tl_algebra.proofs.Chains.{value_of_chain}
 use Rattle.tl_plan.specs.Access.{ColumnTest, access_of, test_by, tests_of}
 use Rattle.tl_plan.specs.Law.{HasKey}
-use Rattle.tl_isolation.specs.Tables.{FitsTable, GivesValues}
+use Rattle.tl_isolation.specs.Kinds.{condition_fits, gives_kind}
+use Rattle.tl_isolation.specs.Tables.{FitsTable, IsAccepted, OpensTable}
+use Rattle.tl_isolation.proofs.Computed.{alike_test, kind_of_chain, kind_of_literal, kind_of_place}
 use Rattle.tl_protocol.specs.Store.{Key}
 use Rattle.tl_protocol.specs.Run.{Layout}
-use Rattle.tl_protocol.proofs.Frames.{some_same}
 use Rattle.tl_protocol.proofs.Meanings.{Row, Selecting, Updating}
 
 abbrev pub account : Table
@@ -103,14 +105,6 @@ pub is_value : (z : ℤ) → fits z ≡ true → IsValue (value.Int z)
 is_value (pos n) e = record { sfits = ltb-true n (2 ^ 63) e }
 is_value (negsuc n) e = record { sfits = ltb-true n (2 ^ 63) e }
 
-calculated_value : (a : Value) (sign : Operator) (b v : Value) → calculated a sign b ≡ Some v → IsValue v
-calculated_value (value.Int a) sign (value.Int b) v e = one (fits (figure sign a b)) refl e
-  where
-    one : (c : Bool) → fits (figure sign a b) ≡ c → (if c then Some (value.Int (figure sign a b)) else None) ≡ Some v → IsValue v
-    one true f e = subst IsValue (some_same (value.Int (figure sign a b)) v e) (is_value (figure sign a b) f)
-    one false f e = absurd cc
-calculated_value a sign b v e = subst IsValue (some_same value.Null v e) tt
-
 -- a column is this number
 abbrev pub equals : ℕ → ℕ → Condition
 equals at n = condition.Test (side.Place at) comparison.Equal (side.Literal (number n))
@@ -137,15 +131,28 @@ equal_compares n place f = subst (AllByRecursion (λ (t : ColumnTest). IsValue t
     one true = (f, tt)
     one false = tt
 
-pub figured_gives : (at : ℕ) (sign : Operator) (n : ℕ) → GivesValues (figured at sign n)
-figured_gives at sign n row v values e = calculated_value (value_at row at) sign (number n) v (sym (value_of_figured at sign n row) ∙ e)
+-- an account's column and a number that fits make a number
+pub figured_kind : (sign : Operator) (n : ℕ) → fits (pos n) ≡ true → gives_kind account.columns (figured 1 sign n) kind.Int ≡ true
+figured_kind sign n f =
+    ap (λ (g : Kind → Bool). g kind.Int) (kind_of_chain account.columns (expression.Place 1) (record { by = sign; of = expression.Literal (number n) } ∷ []))
+    ∙ (λ i. kind_of_place account.columns 1 i kind.Int && (kind_of_literal account.columns (number n) i kind.Int && true))
+    ∙ ap (λ (b : Bool). b && true) f
 
-pub literal_gives : (v : Value) → IsValue v → GivesValues (expression.Literal v)
-literal_gives v f row x values e = subst IsValue (some_same v x (sym (value_of_literal v row) ∙ e)) f
+pub literal_kind : (n : ℕ) → fits (pos n) ≡ true → gives_kind account.columns (expression.Literal (number n)) kind.Int ≡ true
+literal_kind n f = ap (λ (g : Kind → Bool). g kind.Int) (kind_of_literal account.columns (number n)) ∙ f
+
+-- a column of an account is compared with a number that fits
+pub equals_alike : (n : ℕ) → fits (pos n) ≡ true → condition_fits account.columns (Some (equals 0 n)) ≡ true
+equals_alike n f =
+    alike_test account.columns (side.Place 0) comparison.Equal (side.Literal (number n)) ∙ ap (λ (b : Bool). b || (false || (false || false))) f
 
 -- an account of numbers that fit
 pub fits_account : (id balance : ℕ) → fits (pos id) ≡ true → fits (pos balance) ≡ true → FitsTable account (with_balance id balance)
-fits_account id balance e f = record { width = refl; values = (is_value (pos id) e, (is_value (pos balance) f, tt)) }
+fits_account id balance e f = record { width = refl; values = (is_value (pos id) e, (is_value (pos balance) f, tt)); kinds = refl }
+
+pub opens_account : (id balance : ℕ) → fits (pos id) ≡ true → fits (pos balance) ≡ true → IsAccepted account (with_balance id balance)
+    → OpensTable bank (record { table = 0; row = with_balance id balance })
+opens_account id balance e f a = record { table = omega arith; fits = fits_account id balance e f; accepted = a }
 
 -- ---- the statements
 
@@ -153,8 +160,8 @@ pub has_key : HasKey account
 has_key = (omega arith, tt)
 
 -- SET balance = balance SIGN n WHERE id = k, of numbers that fit
-abbrev pub changing_one : (sign : Operator) (n k : ℕ) → fits (pos k) ≡ true → Updating bank
-changing_one sign n k f =
+abbrev pub changing_one : (sign : Operator) (n k : ℕ) → fits (pos n) ≡ true → fits (pos k) ≡ true → Updating bank
+changing_one sign n k g f =
     record {
       number = 0;
       sets = record { column = 1; value = figured 1 sign n } ∷ [];
@@ -167,7 +174,7 @@ changing_one sign n k f =
       access_so = access_equal k;
       keyed = has_key;
       compares = λ place. equal_compares k place (is_value (pos k) f);
-      suits = (refl, (figured_gives 1 sign n, tt));
+      suits = record { table = omega arith; change = (refl, ap (λ (b : Bool). b && true) (figured_kind sign n g), equals_alike k f) };
     }
 
 -- SET balance = n
@@ -185,7 +192,7 @@ setting_all n f =
       access_so = refl;
       keyed = has_key;
       compares = λ place. tt;
-      suits = (refl, (literal_gives (number n) (is_value (pos n) f), tt));
+      suits = record { table = omega arith; change = (refl, ap (λ (b : Bool). b && true) (literal_kind n f), refl) };
     }
 
 -- of one table, without WHERE

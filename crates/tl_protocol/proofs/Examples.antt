@@ -17,7 +17,7 @@ use Rattle.tl_isolation.specs.History.{IsHistory}
 use Rattle.tl_isolation.specs.Tables.{OpensFitting}
 use Rattle.tl_protocol.specs.Store.{row_shown}
 use Rattle.tl_protocol.specs.Told.{says}
-use Rattle.tl_protocol.proofs.Account.{all_query, all_rows, bank, changing_one, fits_account, key_of_id, number, one_manager, opens_with, setting_all, sum_of_balances, sum_query, with_balance}
+use Rattle.tl_protocol.proofs.Account.{all_query, all_rows, bank, changing_one, opens_account, key_of_id, number, one_manager, opens_with, setting_all, sum_of_balances, sum_query, with_balance}
 use Rattle.tl_protocol.proofs.Meanings.{Row, Updating, edit_of}
 use Rattle.tl_protocol.proofs.Play.{Choice, Asks, Draws, Brings, Begins, SaysBegun, Selects, Updates, Tries, Loads, Stores, Decides, MarksUndone, LoadsCommits, StoresCommits, Answers, Vanishes, Recoverer, AsksFor, ReadsLog, LoadsLost, StoresLost, MarksLost, LoadsFinish, StoresFinish, EndsLost, SaysRecovered, led_by, opening, play, played_history, played_tables, told_by}
 
@@ -39,13 +39,13 @@ abbrev two_hundred : Setup
 two_hundred = opens_with (with_balance 1 100 ∷ with_balance 2 100 ∷ [])
 
 two_hundred_fit : OpensFitting two_hundred
-two_hundred_fit = ((fits_account 1 100 refl refl, refl), ((fits_account 2 100 refl refl, refl), tt))
+two_hundred_fit = (opens_account 1 100 refl refl refl, (opens_account 2 100 refl refl refl, tt))
 
 abbrev take_ten : Updating bank
-take_ten = changing_one sign.Subtract 10 1 refl
+take_ten = changing_one sign.Subtract 10 1 refl refl
 
 abbrev add_five : Updating bank
-add_five = changing_one sign.Add 5 1 refl
+add_five = changing_one sign.Add 5 1 refl refl
 
 abbrev lost_update : List (Choice bank)
 lost_update =
@@ -90,13 +90,13 @@ abbrev two_fifties : Setup
 two_fifties = opens_with (with_balance 1 50 ∷ with_balance 2 50 ∷ [])
 
 two_fifties_fit : OpensFitting two_fifties
-two_fifties_fit = ((fits_account 1 50 refl refl, refl), ((fits_account 2 50 refl refl, refl), tt))
+two_fifties_fit = (opens_account 1 50 refl refl refl, (opens_account 2 50 refl refl refl, tt))
 
 abbrev first_eighty : Updating bank
-first_eighty = changing_one sign.Subtract 80 1 refl
+first_eighty = changing_one sign.Subtract 80 1 refl refl
 
 abbrev second_eighty : Updating bank
-second_eighty = changing_one sign.Subtract 80 2 refl
+second_eighty = changing_one sign.Subtract 80 2 refl refl
 
 abbrev write_skew : List (Choice bank)
 write_skew =
@@ -149,7 +149,7 @@ abbrev pub three_hundred : Setup
 three_hundred = opens_with (with_balance 1 100 ∷ with_balance 2 100 ∷ with_balance 3 100 ∷ [])
 
 pub three_hundred_fit : OpensFitting three_hundred
-three_hundred_fit = ((fits_account 1 100 refl refl, refl), ((fits_account 2 100 refl refl, refl), ((fits_account 3 100 refl refl, refl), tt)))
+three_hundred_fit = (opens_account 1 100 refl refl refl, (opens_account 2 100 refl refl refl, (opens_account 3 100 refl refl refl, tt)))
 
 abbrev pub set_zero : Updating bank
 set_zero = setting_all 0 refl

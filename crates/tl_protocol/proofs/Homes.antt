@@ -6,14 +6,14 @@ use Rattle.std.specs.Cmp.Lexicographic.{nat_list_cmp_total}
 use Rattle.std.specs.FinMap as finmap
 use Rattle.std.specs.FinMap.{nat_cmp-IsAntisymmetric, slice_cmp-IsAntisymmetric}
 use Rattle.std.specs.FinMap.Entries.{below_all, find, is_sorted}
-use Rattle.std.specs.List.{list_any, AllByRecursion}
+use Rattle.std.specs.List.{list_all, list_any, AllByRecursion}
 use Rattle.std.specs.Ordering.{is_eq, is_lt, match_ordering}
 use Rattle.std.proofs.lemmas.Bool.{and_parts, both_ways, eqb-true, eq-eqb, not-true, or_parts}
 use Rattle.std.proofs.lemmas.List.{get_or-set_other, length-set}
 use Rattle.std.proofs.lemmas.Option.{option_and_then_some}
 use Rattle.tl_values.specs.declared.value.Value.{Value}
 use Rattle.tl_values.specs.declared.value.Value.TheVariants as value
-use Rattle.tl_values.specs.Key.{AreValues, IsValue}
+use Rattle.tl_values.specs.Key.{IsValue}
 use Rattle.tl_values.specs.Value.{values_at}
 use Rattle.tl_schema.specs.declared.catalog.Table.{Table}
 use Rattle.tl_schema.specs.declared.catalog.Catalog.{Catalog}
@@ -32,7 +32,9 @@ use Rattle.tl_write.specs.Change.{Deed, Add, Replace, Remove, Overflow, after, d
 use Rattle.tl_write.specs.Own.{key_cmp, put_write, put_writes}
 use Rattle.tl_write.specs.Tables.{Tables, is_in, laid_over, laid_write, records_in}
 use Rattle.tl_isolation.specs.Meaning.{change_of}
-use Rattle.tl_isolation.specs.Tables.{AreHome, FitsTable, GivesValues, IsAccepted, IsHome, Suits, opening_writes, table_of}
+use Rattle.tl_isolation.specs.Kinds.{gives_kind}
+use Rattle.tl_isolation.specs.Tables.{AreHome, FitsTable, HasTable, IsHome, OpensTable, Suits, opening_writes, sets_its_kind, table_of}
+use Rattle.tl_isolation.proofs.Computed.{kind_computed, set_of_kinds, set_value}
 use Rattle.tl_isolation.proofs.Lookups.{all_filter, all_map, some_same}
 use Rattle.tl_protocol.proofs.Shown.{AreHomeWrites}
 
@@ -61,13 +63,13 @@ puts_home catalog (w ∷ ws) own h i = puts_home catalog ws (put_write w own) h.
 
 -- opening rows that fit their tables are written at home
 pub opening_home : (catalog : Catalog) (rows : List OpeningRow)
-    → AllByRecursion (λ (o : OpeningRow). FitsTable (table_of catalog o.table) o.row × IsAccepted (table_of catalog o.table) o.row) rows
+    → AllByRecursion (OpensTable catalog) rows
     → AreHomeWrites catalog (opening_writes catalog rows)
 opening_home catalog [] fits = tt
 opening_home catalog (o ∷ os) fits =
     let key : List ℕ = record_key o.table (table_of catalog o.table) o.row in
     put_home catalog (record { key = key; row = Some o.row }) (opening_writes catalog os)
-    (row_home catalog key o.row (record { number = o.table; fits = fits.0.0; accepted = fits.0.1; own_key = refl })) (opening_home catalog os fits.1)
+    (row_home catalog key o.row (record { number = o.table; table = fits.0.table; fits = fits.0.fits; accepted = fits.0.accepted; own_key = refl })) (opening_home catalog os fits.1)
 
 -- keys that tie are one
 tie : (k l : List ℕ) → is_eq (key_cmp k l) ≡ true → k ≡ l
@@ -146,10 +148,10 @@ sorted tables = true_if (is_sorted key_cmp (finmap.entries tables)) (finmap.entr
     true_if false h = absurd h
 
 -- the record is at home, and in the table of this number
-abbrev IsHomeIn : Catalog → ℕ → List ℕ × List Value → Type 0
+abbrev pub IsHomeIn : Catalog → ℕ → List ℕ × List Value → Type 0
 IsHomeIn catalog number e = IsHome catalog e.0 e.1 × (is_in number e.0 ≡ true)
 
-matching_home : (catalog : Catalog) (number : ℕ) (condition : Option Condition) (tables : Tables) → AreHome catalog tables
+pub matching_home : (catalog : Catalog) (number : ℕ) (condition : Option Condition) (tables : Tables) → AreHome catalog tables
     → AllByRecursion (IsHomeIn catalog number) (matching number condition tables)
 matching_home catalog number condition tables h =
     all_filter (IsHomeIn catalog number) (IsHomeIn catalog number) (λ (e : List ℕ × List Value). lets_through condition e.1) (λ e i j. j) (records_in number tables)
@@ -180,19 +182,26 @@ set_all P [] place y h p = tt
 set_all P (x ∷ xs) zero y h p = (p, h.1)
 set_all P (x ∷ xs) (suc place) y h p = (h.0, set_all P xs place y h.1 p)
 
--- SET of values leaves a row that fits
-columns_fit : (table : Table) (sets : List SetColumn) (old new row : List Value) → AreValues old → AllByRecursion (λ (set : SetColumn). GivesValues set.value) sets
+-- SET leaves a row that fits
+columns_fit : (table : Table) (sets : List SetColumn) (old new row : List Value) → FitsTable table old → list_all (sets_its_kind table.columns) sets ≡ true
     → FitsTable table new → set_columns sets old new ≡ Some row → FitsTable table row
 columns_fit table [] old new row o g h e = subst (FitsTable table) (some_same new row e) h
 columns_fit table (s ∷ ss) old new row o g h e =
+    let parts = and_parts (sets_its_kind table.columns s) (list_all (sets_its_kind table.columns) ss) g in
     option_and_then_some (λ (v : Value). set_columns ss old (slice_set new s.column v)) (value_of s.value old) row e
-    (λ v i j. columns_fit table ss old (slice_set new s.column v) row o g.1 (one v (g.0 old v o i)) j)
+    (λ v i j. columns_fit table ss old (slice_set new s.column v) row o parts.1 (one v parts.0 i) j)
   where
-    one : (v : Value) → IsValue v → FitsTable table (slice_set new s.column v)
-    one v i = record { width = length-set new s.column v ∙ h.width; values = set_all IsValue new s.column v h.values i }
+    one : (v : Value) → sets_its_kind table.columns s ≡ true → value_of s.value old ≡ Some v → FitsTable table (slice_set new s.column v)
+    one v g i = record {
+      width = length-set new s.column v ∙ h.width;
+      values = set_all IsValue new s.column v h.values (set_value table.columns s old v o.values g i);
+      kinds = set_of_kinds (gives_kind table.columns s.value) table.columns new s.column v
+          (λ k j. kind_computed table.columns old s.value k v o.kinds j i) g h.kinds;
+    }
 
 -- the row fits the table of this number, and the key is its own
 record FitsAt (catalog : Catalog) (number : ℕ) (key : List ℕ) (row : List Value) : Type 0 where
+  table : HasTable catalog number
   fits : FitsTable (table_of catalog number) row
   own_key : key ≡ record_key number (table_of catalog number) row
 
@@ -212,6 +221,7 @@ replaced_home catalog number e None h f k = tt
 replaced_home catalog number e (Some row) h f k =
     let same : number ≡ h.0.number = in_one number h.0.number e.0 (values_at (table_of catalog h.0.number).key e.1) h.0.own_key h.1 in
     record {
+      table = subst (HasTable catalog) (sym same) h.0.table;
       fits = f row (subst (λ (m : ℕ). FitsTable (table_of catalog m) e.1) (sym same) h.0.fits) refl;
       own_key = h.0.own_key ∙ ap (λ (m : ℕ). record_key m (table_of catalog m) e.1) (sym same) ∙ ap (store_key number) (sym (k row refl));
     }
@@ -219,10 +229,10 @@ replaced_home catalog number e (Some row) h f k =
     in_one : (number m : ℕ) (key : List ℕ) (values : List Value) → key ≡ store_key m values → is_in number key ≡ true → number ≡ m
     in_one number m key values e i = eqb-true number m (and_parts (number == m) true (ap (is_in number) (sym e) ∙ i)).0
 
-additions_home : (catalog : Catalog) (number : ℕ) (rows : List (List Value)) → AllByRecursion (FitsTable (table_of catalog number)) rows
+additions_home : (catalog : Catalog) (number : ℕ) (rows : List (List Value)) → HasTable catalog number → AllByRecursion (FitsTable (table_of catalog number)) rows
     → AllByRecursion (IsHomeDeed catalog number) (map (λ (row : List Value). Add (record_key number (table_of catalog number) row) row) rows)
-additions_home catalog number [] fits = tt
-additions_home catalog number (row ∷ rows) fits = (record { fits = fits.0; own_key = refl }, additions_home catalog number rows fits.1)
+additions_home catalog number [] here fits = tt
+additions_home catalog number (row ∷ rows) here fits = (record { table = here; fits = fits.0; own_key = refl }, additions_home catalog number rows here fits.1)
 
 removals_home : (catalog : Catalog) (number : ℕ) (es : List (List ℕ × List Value)) → AllByRecursion (IsHomeDeed catalog number) (map (λ (e : List ℕ × List Value). Remove e.0) es)
 removals_home catalog number [] = tt
@@ -230,13 +240,13 @@ removals_home catalog number (e ∷ es) = (tt, removals_home catalog number es)
 
 deeds_home : (catalog : Catalog) (edit : Edit) (tables : Tables) → AreHome catalog tables → Suits catalog edit
     → AllByRecursion (IsHomeDeed catalog (number_of edit)) (deeds edit (table_of catalog (number_of edit)) tables)
-deeds_home catalog (Insert number rows) tables h k = additions_home catalog number rows k
+deeds_home catalog (Insert number rows) tables h k = additions_home catalog number rows k.table k.change
 deeds_home catalog (Update number sets condition) tables h k =
     let key : List ℕ = (table_of catalog number).key in
-    let apart = not-true (list_any (λ (set : SetColumn). list_any (λ (place : ℕ). place == set.column) key) sets) k.0 in
+    let apart = not-true (list_any (λ (set : SetColumn). list_any (λ (place : ℕ). place == set.column) key) sets) k.change.0 in
     all_map (IsHomeIn catalog number) (IsHomeDeed catalog number) (λ (e : List ℕ × List Value). replaced e.0 (set_columns sets e.1 e.1))
     (λ e i. replaced_home catalog number e (set_columns sets e.1 e.1) i
-    (λ row fits j. columns_fit (table_of catalog number) sets e.1 e.1 row fits.values k.1 fits j) (λ row j. columns_kept key sets e.1 e.1 row apart j))
+    (λ row fits j. columns_fit (table_of catalog number) sets e.1 e.1 row fits k.change.1 fits j) (λ row j. columns_kept key sets e.1 e.1 row apart j))
     (matching number condition tables) (matching_home catalog number condition tables h)
 deeds_home catalog (Delete number condition) tables h k = removals_home catalog number (matching number condition tables)
 
@@ -249,10 +259,10 @@ after_home : (catalog : Catalog) (number : ℕ) (is_there : List ℕ → Bool) (
     → offence (table_of catalog number) is_there own done.writes deed ≡ None → AreHomeWrites catalog done.writes → AreHomeWrites catalog (after deed done).writes
 after_home catalog number is_there own (Add key row) done h o i =
     put_home catalog (record { key = key; row = Some row }) done.writes
-    (row_home catalog key row (record { number = number; fits = h.fits; accepted = accepted_row (row_offence (table_of catalog number) row) _ o; own_key = h.own_key })) i
+    (row_home catalog key row (record { number = number; table = h.table; fits = h.fits; accepted = accepted_row (row_offence (table_of catalog number) row) _ o; own_key = h.own_key })) i
 after_home catalog number is_there own (Replace key row) done h o i =
     put_home catalog (record { key = key; row = Some row }) done.writes
-    (row_home catalog key row (record { number = number; fits = h.fits; accepted = accepted_row (row_offence (table_of catalog number) row) _ o; own_key = h.own_key })) i
+    (row_home catalog key row (record { number = number; table = h.table; fits = h.fits; accepted = accepted_row (row_offence (table_of catalog number) row) _ o; own_key = h.own_key })) i
 after_home catalog number is_there own (Remove key) done h o i = put_home catalog (record { key = key; row = None }) done.writes (none_home catalog key) i
 after_home catalog number is_there own Overflow done h o i = i
 

@@ -8,9 +8,11 @@ pub mod Duties
 pub mod Examples
 pub mod Finished
 pub mod Finishing
+pub mod ForKey
 pub mod Frames
 pub mod Held
 pub mod History
+pub mod HomeKeys
 pub mod Homes
 pub mod Inv
 pub mod Laid
@@ -19,11 +21,13 @@ pub mod Ledger
 pub mod Managers
 pub mod Meanings
 pub mod Moves
+pub mod Named
 pub mod Opening
 pub mod Owner
 pub mod Play
 pub mod Proper
 pub mod RarerMoves
+pub mod Refused
 pub mod Reached
 pub mod Recovery
 pub mod Sets

@@ -30,7 +30,8 @@ use Rattle.tl_protocol.specs.Move as move
 use Rattle.tl_protocol.specs.Move.{Move, is_nested, is_outside}
 use Rattle.tl_protocol.specs.Told.{finished_as, finished_so, told}
 use Rattle.tl_isolation.proofs.Lookups.{all_filter, all_map, all_push, found}
-use Rattle.tl_protocol.proofs.Shown.{AreHomeWrites, Proper}
+use Rattle.tl_protocol.proofs.Shown.{AreHomeWrites, AreKeyed, Proper}
+use Rattle.tl_protocol.proofs.HomeKeys.{change_keyed, opening_keyed, puts_keyed}
 use Rattle.tl_protocol.proofs.Homes.{change_home, laid_home, opening_home, puts_home}
 
 -- a change is one of its table
@@ -44,19 +45,21 @@ SuitsEntry catalog (entry.Said node b said) = SuitsBound catalog b
 SuitsEntry catalog e = Unit {0}
 
 pub opening_proper : (setup : Setup) → OpensFitting setup → Proper setup.catalog (opening_state setup)
-opening_proper setup fits = record { commits = (opening_home setup.catalog setup.rows fits, tt); held = tt }
+opening_proper setup fits =
+    let home = opening_home setup.catalog setup.rows fits in
+    record { commits = ((home, opening_keyed setup.catalog setup.rows home), tt); held = tt }
 
 abbrev IsProperCommit : Catalog → Commit → Type 0
-IsProperCommit catalog c = AreHomeWrites catalog c.writes
+IsProperCommit catalog c = AreHomeWrites catalog c.writes × AreKeyed catalog c.writes
 
 abbrev IsProperHeld : Catalog → Transaction → Type 0
-IsProperHeld catalog t = AreHomeWrites catalog t.own
+IsProperHeld catalog t = AreHomeWrites catalog t.own × AreKeyed catalog t.own
 
 module _ (catalog : Catalog) where
   -- Tables. Those after proper commits are at home
   from_home : (tables : Tables) (commits : List Commit) → AreHome catalog tables → AllByRecursion (IsProperCommit catalog) commits → AreHome catalog (tables_from tables commits)
   from_home tables [] h i = h
-  from_home tables (c ∷ cs) h i = from_home (laid_over tables c.writes) cs (laid_home catalog tables c.writes h i.0) i.1
+  from_home tables (c ∷ cs) h i = from_home (laid_over tables c.writes) cs (laid_home catalog tables c.writes h i.0.0) i.1
 
   empty_home : AreHome catalog finmap.empty
   empty_home key row e = absurd (none row (sym (finmap.get-empty key_cmp key) ∙ e))
@@ -120,9 +123,11 @@ module _ (catalog : Catalog) where
   kept_own told true t h = h
   kept_own told false t h = h
 
-  changed_own : (result : Result Effect ChangeFault) (own : List Write) → ((effect : Effect) → result ≡ Ok effect → AreHomeWrites catalog effect.writes)
-      → AreHomeWrites catalog own → AreHomeWrites catalog (own_after result own)
-  changed_own (Ok effect) own f h = puts_home catalog effect.writes own (f effect refl) h
+  changed_own : (result : Result Effect ChangeFault) (own : List Write)
+      → ((effect : Effect) → result ≡ Ok effect → AreHomeWrites catalog effect.writes × AreKeyed catalog effect.writes)
+      → AreHomeWrites catalog own × AreKeyed catalog own → AreHomeWrites catalog (own_after result own) × AreKeyed catalog (own_after result own)
+  changed_own (Ok effect) own f h =
+      (puts_home catalog effect.writes own (f effect refl).0 h.0, puts_keyed catalog effect.writes own (f effect refl).1 h.1)
   changed_own (Err refusal) own f h = h
 
   -- what a statement leaves of the own writes
@@ -134,7 +139,11 @@ module _ (catalog : Catalog) where
   taken_own s (bound.Recover gone) said t k p h = h
   taken_own s (bound.Select query) said t k p h = kept_own said.answer said.answered t h
   taken_own s (bound.Change edit) said t k p h =
-      changed_own (effect_on catalog s t edit) t.own (λ effect e. change_home catalog edit (view_of s t) t.own effect (view_home s p t h) k e) h
+      changed_own (effect_on catalog s t edit) t.own
+      (λ effect e. (
+        change_home catalog edit (view_of s t) t.own effect (view_home s p t h.0) k e,
+        change_keyed catalog edit (view_of s t) t.own effect (view_home s p t h.0) k e,
+      )) h
 
   lost_own : (node : ℕ) (t : Transaction) → IsProperHeld catalog t → IsProperHeld catalog (lose node t)
   lost_own node t h = elim (t.node == node) as (λ b. IsProperHeld catalog (cond b (record t { phase = phase.Lost }) t)) [ true ↦ h | false ↦ h ]
@@ -146,7 +155,7 @@ module _ (catalog : Catalog) where
   step_proper s (entry.Asked node) k p = record { commits = p.commits; held = p.held }
   step_proper s (entry.Began node tid first) k p = record {
     commits = p.commits;
-    held = all_push (IsProperHeld catalog) s.held (begin node tid first) p.held tt;
+    held = all_push (IsProperHeld catalog) s.held (begin node tid first) p.held (tt, tt);
   }
   step_proper s (entry.Said node b said) k p =
       forgotten_proper (with_held (held_by node s.held) (take_statement catalog s b said) s) node said.answered

@@ -32,10 +32,10 @@ abbrev two_managers : Layout
 two_managers = record { home = home_of; top = 1; at_home = is_home; stamps = λ k. 0; commits_stamp = 0 }
 
 abbrev take_of_two : Updating bank
-take_of_two = changing_one sign.Subtract 10 2 refl
+take_of_two = changing_one sign.Subtract 10 2 refl refl
 
 abbrev add_one : Updating bank
-add_one = changing_one sign.Add 1 1 refl
+add_one = changing_one sign.Add 1 1 refl refl
 
 abbrev rarer_moves : List (Choice bank)
 rarer_moves =
@@ -82,7 +82,7 @@ rarer_moves_history = played_history two_managers three_hundred three_hundred_fi
 -- between its store of the commits cell and its answer
 
 abbrev take_of_one : Updating bank
-take_of_one = changing_one sign.Subtract 10 1 refl
+take_of_one = changing_one sign.Subtract 10 1 refl refl
 
 abbrev decided : List (Choice bank)
 decided =

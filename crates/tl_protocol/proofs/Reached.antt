@@ -23,6 +23,7 @@ use Rattle.tl_protocol.proofs.Finished.{is_done}
 use Rattle.tl_protocol.proofs.Inv.{Ghost, Inv}
 use Rattle.tl_protocol.proofs.Opening.{opening_ghost, opening_inv}
 use Rattle.tl_protocol.proofs.Moves.{move_kept}
+use Rattle.tl_protocol.proofs.Named.{AreNamed, next_named}
 
 state_append : (catalog : Catalog) (s : SiState) (es ds : List Entry) → state_from catalog s (es ++ ds) ≡ state_from catalog (state_from catalog s es) ds
 state_append catalog s [] ds = refl
@@ -50,6 +51,7 @@ pub record Reached (setup : Setup) (w : World) (s : SiState) (entries : List Ent
   pub shows : Shows s ledger
   pub proper : Proper setup.catalog s
   pub inv : Inv w ledger ghost
+  pub named : AreNamed setup.catalog w.logs
   pub ended : (t : ℕ) → is_done t ghost.finished ≡ (t == 0 || list_any (finishes t) entries)
 
 opening_ended : (t : ℕ) → (if 0 == t then true else false) ≡ (t == 0 || false)
@@ -74,6 +76,7 @@ reached {layout = layout} {setup = setup} fits Start = record {
   shows = opening_shown setup;
   proper = opening_proper setup fits;
   inv = opening_inv layout setup;
+  named = λ tid log e. absurd cc;
   ended = λ t. opening_ended t;
 }
 reached {setup = setup} fits (Step {w = w} {state = s} {entries = es} r m) =
@@ -90,5 +93,6 @@ reached {setup = setup} fits (Step {w = w} {state = s} {entries = es} r m) =
       shows = t.shows;
       proper = proper_after setup.catalog s ds (subst (λ c. AllByRecursion (SuitsEntry c) ds) p.catalog (told_suits s.commits w m)) p.proper;
       inv = k.inv;
+      named = next_named setup.catalog w s p.ledger p.ghost p.shows p.proper p.inv p.named m;
       ended = λ u. more_ended u es ds (is_done u p.ghost.finished) (is_done u k.ghost.finished) (p.ended u) (k.ended s u);
     }

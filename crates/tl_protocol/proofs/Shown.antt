@@ -13,6 +13,7 @@ use Rattle.tl_isolation.specs.State.{held_as, held_by}
 use Rattle.tl_isolation.specs.Tables.{IsHome}
 use Rattle.tl_isolation.specs.Step.{has_vanished, noted_of, outcome_of}
 use Rattle.tl_isolation.specs.History.{IsHistoryFrom, state_from}
+use Rattle.tl_protocol.specs.Stands.{IsKeyOf}
 use Rattle.tl_protocol.proofs.Ledger.{Ledger}
 
 -- a held transaction is the one of its node and of its number
@@ -41,7 +42,11 @@ pub record Tells (catalog : Catalog) (s : SiState) (entries : List Entry) (a : L
 abbrev pub AreHomeWrites : Catalog → List Write → Type 0
 AreHomeWrites catalog ws = AllByRecursion (λ (w : Write). (row : List Value) → w.row ≡ Some row → IsHome catalog w.key row) ws
 
--- so are all rows of all commits and of all held transactions
+-- each key that is written is that of a record, also where the record is deleted
+abbrev pub AreKeyed : Catalog → List Write → Type 0
+AreKeyed catalog ws = AllByRecursion (λ (w : Write). IsKeyOf catalog w.key) ws
+
+-- so are all rows and keys of all commits and of all held transactions
 pub record Proper (catalog : Catalog) (s : SiState) : Type 0 where
-  pub commits : AllByRecursion (λ (c : Commit). AreHomeWrites catalog c.writes) s.commits
-  pub held : AllByRecursion (λ (t : Transaction). AreHomeWrites catalog t.own) s.held
+  pub commits : AllByRecursion (λ (c : Commit). AreHomeWrites catalog c.writes × AreKeyed catalog c.writes) s.commits
+  pub held : AllByRecursion (λ (t : Transaction). AreHomeWrites catalog t.own × AreKeyed catalog t.own) s.held

@@ -23,6 +23,7 @@ use Rattle.tl_protocol.proofs.History.{IsKept, all_in_history, history}
 use Rattle.tl_protocol.proofs.Frames.{some_same}
 use Rattle.tl_protocol.proofs.Inv.{ActiveOk, Base, CellOk, Core, Front, Ghost, MenderOk, NodeOk, Nodes, Shared, TxnOk, active_txn, base, held_txn, mends_it, nodes_of, nowhere, own_stored, shared, tid_of, txn_in}
 use Rattle.tl_protocol.proofs.Reached.{Reached}
+use Rattle.tl_protocol.proofs.ForKey.{logs_for, records_for}
 use Rattle.tl_protocol.proofs.Owner.{known_fits, owner, shown_front, unknown_front}
 
 abbrev AreFinished : TidSet → List Version → Type 0
@@ -126,6 +127,8 @@ stands_for setup w s es r =
       first_alone = λ k. first_alone w.logs w.commits.finished k a.commits (g.cuts k) (w.cells k).versions (g.fronts k)
           (all_in_history w.commits.finished (length a.commits) k a.commits (omega arith) all)
           (λ f e. (owner (base w) a g c k f e).named) (c.cells k);
+      records = records_for setup w s es r;
+      logs = logs_for setup w s es r;
     }
 
 in_log : (w : World) (g : Ghost) (i : ℕ) (p : Phase) (seat : Seat) → NodeOk (shared (base w) g) i p seat → ActiveOk i p (w.active i) → HasInLog w i p

@@ -1,7 +1,9 @@
 -- How the store stands for the tables, what a running node knows of it, and who may mend what a vanished node left.
-use Rattle.std.specs.Prelude.{◌≡◌, ℕ, ◌==◌, Bool, true, false, ◌&&◌, ◌||◌, List, [], ◌∷◌, Option, Some, None}
+use Rattle.std.specs.Prelude.{◌≡◌, ℕ, ◌≤◌, ◌^◌, ◌==◌, Bool, true, false, ◌&&◌, ◌||◌, List, [], ◌∷◌, Option, Some, None}
 use Rattle.std.specs.List.{list_any, AllByRecursion}
 use Rattle.std.specs.FinMap as finmap
+use Rattle.tl_values.specs.declared.value.Value.{Value}
+use Rattle.tl_schema.specs.declared.catalog.Catalog.{Catalog}
 use Rattle.tl_descriptor.specs.Tids.{TidSet, has}
 use Rattle.tl_logrec.specs.declared.entry.Flag.{Flag}
 use Rattle.tl_logrec.specs.declared.entry.Flag.TheVariants as flag
@@ -12,6 +14,7 @@ use Rattle.tl_isolation.specs.declared.entry.Entry.TheVariants as entry
 use Rattle.tl_isolation.specs.declared.state.Transaction.{Transaction}
 use Rattle.tl_isolation.specs.declared.state.SiState.{SiState}
 use Rattle.tl_isolation.specs.State.{held_as, tables_after}
+use Rattle.tl_isolation.specs.Tables.{IsHome}
 use Rattle.std.specs.Prelude.{take}
 use Rattle.tl_protocol.specs.Store.{Key, LogCell, row_shown}
 use Rattle.tl_protocol.specs.World.{Phase, Idle, Noted, Drawn, Live, Trying, Undoing, Closing, Ending, World, runs}
@@ -40,6 +43,22 @@ FirstAlone logs finished k [] = Unit {0}
 FirstAlone logs finished k (v ∷ vs) =
     (has finished v.tid ≡ false → Names k (logs v.tid)) × AllByRecursion (λ (x : Version). has finished x.tid ≡ true) vs
 
+-- the key is that of a record: of a row that a table of the catalog may have
+abbrev pub IsKeyOf : Catalog → Key → Type 0
+IsKeyOf catalog key = (row : List Value) × IsHome catalog key row
+
+-- a version in a record cell: its row, if it has one, is home under the key of the cell
+pub record IsVersionFor (catalog : Catalog) (key : Key) (v : Version) : Type 0 where
+  pub tid : v.tid ≤ 2 ^ 62
+  pub is_key : IsKeyOf catalog key
+  pub home : (row : List Value) → v.row ≡ Some row → IsHome catalog key row
+
+-- a log cell is of the transaction of its key, and names records
+pub record IsLogFor (catalog : Catalog) (tid : ℕ) (log : LogCell) : Type 0 where
+  pub own : log.entry.tid ≡ tid
+  pub small : tid ≤ 2 ^ 62
+  pub keys : AllByRecursion (IsKeyOf catalog) log.entry.writes
+
 -- the store stands for the tables of the history so far
 pub record StandsFor (w : World) (state : SiState) (entries : List Entry) : Type 0 where
   -- a held transaction is active at its manager, and its snapshot shows of each record what its first commits left
@@ -51,6 +70,9 @@ pub record StandsFor (w : World) (state : SiState) (entries : List Entry) : Type
   -- it has the transactions of which it was told that they are committed or undone, and tid 0
   pub finished : (tid : ℕ) → has w.commits.finished tid ≡ (tid == 0 || list_any (finishes tid) entries)
   pub first_alone : (k : Key) → FirstAlone w.logs w.commits.finished k (w.cells k).versions
+  -- each cell is a cell for its key
+  pub records : (k : Key) → AllByRecursion (IsVersionFor w.catalog k) (w.cells k).versions
+  pub logs : (tid : ℕ) (log : LogCell) → w.logs tid ≡ Some log → IsLogFor w.catalog tid log
 
 -- what stands in the log cell of a running node's transaction, and at its manager
 abbrev pub HasInLog : World → ℕ → Phase → Type 0

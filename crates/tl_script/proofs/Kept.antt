@@ -1,14 +1,16 @@
 -- Each line leaves the parts of a script bound, and adds at most one opening row.
-use Rattle.std.proofs.Common.{◌≡◌, ℕ, ◌+◌, ◌<◌, ◌≤◌, ◌^◌, ◌==◌, ◌||◌, Bool, true, false, cond, List, [], ◌∷◌, ◌++◌, Option, Some, None, Result, Ok, Err, length, length-append, refl, subst, arith}
-use Rattle.std.specs.Prelude.{IfOk, codes}
-use Rattle.std.specs.List.{AllByRecursion, onto_first}
+use Rattle.std.proofs.Common.{◌≡◌, ℕ, ◌+◌, ◌<◌, ◌≤◌, ◌^◌, ◌==◌, ◌||◌, Bool, true, false, cond, List, [], ◌∷◌, ◌++◌, Option, Some, None, Result, Ok, Err, length, length-append, refl, ap, subst, ◌∙◌, arith}
+use Rattle.std.specs.Prelude.{IfOk, codes, not}
+use Rattle.std.specs.List.{AllByRecursion, list_any, onto_first}
+use Rattle.std.proofs.lemmas.Bool.{or_parts}
 use Rattle.std.specs.Option.{option_and_then}
 use Rattle.std.specs.Str.{bytes_eq}
 use Rattle.tl_base.specs.declared.place.Settings.{Settings}
 use Rattle.tl_isolation.specs.declared.bound.Bound.{Bound}
 use Rattle.tl_isolation.specs.declared.script.Script.{Script}
 use Rattle.tl_isolation.specs.declared.script.Session.{Session}
-use Rattle.tl_journal.specs.Binding.{IsBound, StatementFits}
+use Rattle.tl_isolation.specs.declared.script.Vanish.{Vanish}
+use Rattle.tl_journal.specs.Binding.{EachOnce, IsBound, StatementFits}
 use Rattle.tl_script.specs.declared.fault.ScriptError.{ScriptError}
 use Rattle.tl_script.specs.declared.statement.Statement.{Statement}
 use Rattle.tl_script.specs.declared.statement.Statement.TheVariants.{Begin, Commit, Rollback, Recover, Insert, SelectAll, Select, Update, Delete}
@@ -17,7 +19,7 @@ use Rattle.tl_script.specs.Directive.{item_in, vanish_in}
 use Rattle.tl_script.specs.Fields.{fields_of}
 use Rattle.tl_script.specs.Lines.{lines_of}
 use Rattle.tl_script.specs.Node.{node_in}
-use Rattle.tl_script.specs.Parts.{Parts, has_key, has_schedule, has_session, is_none, no_parts, placed, said_last, script_with, take_by, take_item, take_items, take_line, take_node, take_opening, take_statement, take_turns, take_vanish, unless, with_item, with_node, with_vanish}
+use Rattle.tl_script.specs.Parts.{Parts, has_key, has_schedule, has_session, has_vanish, is_none, no_parts, placed, said_last, script_with, take_by, take_item, take_items, take_line, take_node, take_opening, take_statement, take_turns, take_vanish, unless, with_item, with_node, with_vanish}
 use Rattle.tl_script.specs.Script.{Fault, Gives, ◌>>=◌, or_not_built, parts_in, script_in, script_of}
 use Rattle.tl_script.specs.Statement.{Names, statement_in, table_in}
 use Rattle.tl_script.proofs.Bound.{AreOpening, IsOpening, catalog_with, rows_fit, statement_fits, writes_fit}
@@ -34,6 +36,8 @@ pub record PartsFit (names : Names) (most : ℕ) (parts : Parts) : Type 0 where
   pub rows : AreOpening parts.rows
   pub few : length parts.rows ≤ most
   pub nodes : AllByRecursion IsNode parts.sessions
+  pub sessions : EachOnce (λ (s : Session). s.node) parts.sessions
+  pub vanishes : EachOnce (λ (v : Vanish). v.node) parts.vanishes
   pub statements : AllByRecursion (SaysFitting names) parts.sessions
 
 -- where there are such parts
@@ -49,6 +53,34 @@ unless_stays : (names : Names) (most : ℕ) (amiss : Bool) (parts : Parts) → P
 unless_stays names most true parts f = tt
 unless_stays names most false parts f = f
 
+-- there is nothing amiss where they stand
+unless_known : (names : Names) (most : ℕ) (amiss : Bool) (parts : Parts) → (amiss ≡ false → PartsFit names most parts) → Stays names most (unless amiss parts)
+unless_known names most true parts f = tt
+unless_known names most false parts f = f refl
+
+none_push : {A : Type 0} (p : A → Bool) (xs : List A) (y : A) → list_any p xs ≡ false → p y ≡ false → list_any p (xs ++ y ∷ []) ≡ false
+none_push p [] y h i = ap (λ (b : Bool). b || false) i
+none_push p (x ∷ xs) y h i = let parts = or_parts (p x) (list_any p xs) h in λ j. parts.0 j || none_push p xs y parts.1 i j
+
+-- one more of a number that isn't there
+once_push : {A : Type 0} (number_in : A → ℕ) (xs : List A) (y : A) → list_any (λ x. number_in x == number_in y) xs ≡ false → EachOnce number_in xs
+    → EachOnce number_in (xs ++ y ∷ [])
+once_push number_in [] y h o = (refl, tt)
+once_push number_in (x ∷ xs) y h o =
+    let parts = or_parts (number_in x == number_in y) (list_any (λ x. number_in x == number_in y) xs) h in
+    (none_push (λ z. number_in x == number_in z) xs y o.0 parts.0, once_push number_in xs y parts.1 o.1)
+
+-- a statement leaves the nodes of the sessions
+said_any : (p : ℕ → Bool) (b : Bound) (sessions : List Session) → list_any (λ (s : Session). p s.node) (said_last b sessions) ≡ list_any (λ (s : Session). p s.node) sessions
+said_any p b [] = refl
+said_any p b (s ∷ []) = refl
+said_any p b (s ∷ t ∷ sessions) = ap (λ (found : Bool). p s.node || found) (said_any p b (t ∷ sessions))
+
+said_once : (b : Bound) (sessions : List Session) → EachOnce (λ (s : Session). s.node) sessions → EachOnce (λ (s : Session). s.node) (said_last b sessions)
+said_once b [] h = tt
+said_once b (s ∷ []) h = h
+said_once b (s ∷ t ∷ sessions) h = (said_any (λ n. s.node == n) b (t ∷ sessions) ∙ h.0, said_once b (t ∷ sessions) h.1)
+
 found_stays : {A : Type 0} (names : Names) (most : ℕ) (f : A → Option Parts) (o : Option A) → ((x : A) → o ≡ Some x → Stays names most (f x)) → Stays names most (option_and_then f o)
 found_stays names most f None h = tt
 found_stays names most f (Some x) h = h x refl
@@ -58,7 +90,7 @@ then_stays names most f None s h = tt
 then_stays names most f (Some p) s h = h p s
 
 wider : (names : Names) (most : ℕ) (parts : Parts) → PartsFit names most parts → PartsFit names (most + 1) parts
-wider names most parts f = record { rows = f.rows; few = omega (arith, f.few); nodes = f.nodes; statements = f.statements }
+wider names most parts f = record { rows = f.rows; few = omega (arith, f.few); nodes = f.nodes; sessions = f.sessions; vanishes = f.vanishes; statements = f.statements }
 
 wider_stays : (names : Names) (most : ℕ) (o : Option Parts) → Stays names most o → Stays names (most + 1) o
 wider_stays names most None s = tt
@@ -67,10 +99,13 @@ wider_stays names most (Some parts) s = wider names most parts s
 node_stays : (names : Names) (most : ℕ) (parts : Parts) (digits : List ℕ) (node : ℕ) → PartsFit names most parts → node_in digits ≡ Some node → Stays names most (with_node parts node)
 node_stays names most parts digits node f e =
     let range = within_range 1 16 digits node e in
-    unless_stays names most (has_schedule parts || has_session node parts) _ (record {
+    unless_known names most (has_schedule parts || has_session node parts) _ (λ new. record {
       rows = f.rows;
       few = f.few;
       nodes = all_append IsNode parts.sessions _ f.nodes ((range.from, range.to), tt);
+      sessions = once_push (λ (s : Session). s.node) parts.sessions (record { node = node; statements = [] })
+          (or_parts (has_schedule parts) (has_session node parts) new).1 f.sessions;
+      vanishes = f.vanishes;
       statements = all_append (SaysFitting names) parts.sessions _ f.statements (tt, tt);
     })
 
@@ -81,7 +116,7 @@ take_node_stays names most (digits ∷ other ∷ fields) parts f = tt
 
 item_stays : (names : Names) (most : ℕ) (field : List ℕ) (parts : Parts) → PartsFit names most parts → Stays names most (take_item field parts)
 item_stays names most field parts f =
-    found_stays names most (with_item parts) (item_in field) (λ item e. unless_stays names most _ _ (record { rows = f.rows; few = f.few; nodes = f.nodes; statements = f.statements }))
+    found_stays names most (with_item parts) (item_in field) (λ item e. unless_stays names most _ _ (record { rows = f.rows; few = f.few; nodes = f.nodes; sessions = f.sessions; vanishes = f.vanishes; statements = f.statements }))
 
 items_stay : (names : Names) (most : ℕ) (fields : List (List ℕ)) (parts : Parts) → PartsFit names most parts → Stays names most (take_items fields parts)
 items_stay names most [] parts f = f
@@ -94,7 +129,14 @@ turns_stay names most (field ∷ fields) parts f = items_stay names most (field 
 
 vanish_stays : (names : Names) (most : ℕ) (fields : List (List ℕ)) (parts : Parts) → PartsFit names most parts → Stays names most (take_vanish fields parts)
 vanish_stays names most fields parts f =
-    found_stays names most (with_vanish parts) (vanish_in fields) (λ v e. unless_stays names most _ _ (record { rows = f.rows; few = f.few; nodes = f.nodes; statements = f.statements }))
+    found_stays names most (with_vanish parts) (vanish_in fields) (λ v e. unless_known names most _ _ (λ new. record {
+      rows = f.rows;
+      few = f.few;
+      nodes = f.nodes;
+      sessions = f.sessions;
+      vanishes = once_push (λ (v : Vanish). v.node) parts.vanishes v (or_parts (not (has_session v.node parts)) (has_vanish v.node parts) new).1 f.vanishes;
+      statements = f.statements;
+    }))
 
 opening_stays : (names : Names) (most : ℕ) (s : Statement) (parts : Parts) → PartsFit names most parts → IsInRange s → Stays names (most + 1) (take_opening s parts)
 opening_stays names most Begin parts f r = tt
@@ -107,6 +149,8 @@ opening_stays names most (Insert key other) parts f r =
       rows = all_append IsOpening parts.rows _ f.rows (opens, tt);
       few = omega (arith, f.few, length-append parts.rows (opening_row key other ∷ []));
       nodes = f.nodes;
+      sessions = f.sessions;
+      vanishes = f.vanishes;
       statements = f.statements;
     })
 opening_stays names most SelectAll parts f r = tt
@@ -132,6 +176,8 @@ placed_by false names most s parts f r = wider names most _ (record {
   rows = f.rows;
   few = f.few;
   nodes = said_nodes (bound_of s) parts.sessions f.nodes;
+  sessions = said_once (bound_of s) parts.sessions f.sessions;
+  vanishes = f.vanishes;
   statements = said_statements names (bound_of s) parts.sessions (statement_fits names s r) f.statements;
 })
 
@@ -181,7 +227,7 @@ lines_fit names number most (line ∷ lines) parts read f e =
     let next = ok_bind (or_not_built number (take_line names line parts)) _ read e in
     let stays : PartsFit names (most + 1) next.0 = subst (Stays names (most + 1)) (ok_built number (take_line names line parts) next.0 next.1) (line_stays names most line parts f) in
     let whole : PartsFit names (most + 1 + length lines) read = lines_fit names (number + 1) (most + 1) lines next.0 read stays next.2 in
-    record { rows = whole.rows; few = omega (arith, whole.few); nodes = whole.nodes; statements = whole.statements }
+    record { rows = whole.rows; few = omega (arith, whole.few); nodes = whole.nodes; sessions = whole.sessions; vanishes = whole.vanishes; statements = whole.statements }
 
 -- a script of these lines is bound, and has fewer opening rows than lines
 pub record IsRead (lines : List (List ℕ)) (script : Script) : Type 0 where
@@ -189,7 +235,7 @@ pub record IsRead (lines : List (List ℕ)) (script : Script) : Type 0 where
   pub few : length script.rows ≤ length lines
 
 none_fit : (names : Names) → PartsFit names 0 no_parts
-none_fit names = record { rows = tt; few = omega arith; nodes = tt; statements = tt }
+none_fit names = record { rows = tt; few = omega arith; nodes = tt; sessions = tt; vanishes = tt; statements = tt }
 
 script_read : (lines : List (List ℕ)) (script : Script) → script_in lines ≡ Ok script → IsRead lines script
 unfolding script_in
@@ -200,7 +246,10 @@ script_read (table ∷ lines) script e =
     let fit : PartsFit names.0 (0 + length lines) parts.0 = lines_fit names.0 2 0 lines no_parts parts.0 (none_fit names.0) parts.1 in
     subst (IsRead (table ∷ lines)) (ok_inside (script_with names.0 parts.0) script parts.2) (record {
       bound = λ settings. record {
+        tables = omega arith;
         nodes = fit.nodes;
+        sessions = fit.sessions;
+        vanishes = fit.vanishes;
         statements = fit.statements;
         opening = rows_fit names.0 parts.0.rows fit.rows;
         writes = writes_fit names.0 parts.0.rows fit.rows;

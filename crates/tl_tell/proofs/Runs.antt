@@ -9,18 +9,18 @@ use Rattle.tl_journal.specs.Promises.{AnswersAll, NeverConflicts}
 use Rattle.tl_journal.specs.Outcome.{HasRun}
 use Rattle.tl_tell.specs.Promise.{RunsAreOneHistory, Stood}
 
-pub is_run : (script : Script) (settings : Settings) (events : List Event) → IsBound script settings → 1 ≤ settings.shards → 1 ≤ settings.managers
+pub is_run : (script : Script) (settings : Settings) (events : List Event) → IsBound script settings → 1 ≤ settings.shards → settings.shards ≤ 16 → 1 ≤ settings.managers → settings.managers ≤ 4
     → HasRun script settings events → IsRun script settings events
-is_run script settings events bound shards managers run =
-    record { bound = bound; shards = shards; managers = managers; few = run.few; trace = run.journal.trace }
+is_run script settings events bound shards few_shards managers few_managers run =
+    record { bound = bound; shards = shards; few_shards = few_shards; managers = managers; few_managers = few_managers; few = run.few; trace = run.journal.trace }
 
 stood : StoreStands → (script : Script) (settings : Settings) (events past rest : List Event) → IsRun script settings events → events ≡ past ++ rest
     → Stood script settings past
 stood stands script settings events past rest run is = stands script settings past rest (subst (IsRun script settings) is run)
 
 pub one_history : OneHistory → SpeaksScript → SpeaksWhole → StoreStands → AnswersAll → NeverConflicts → RunsAreOneHistory
-one_history history speaks whole stands answers alone script settings events bound shards managers run =
-    let is : IsRun script settings events = is_run script settings events bound shards managers run in
+one_history history speaks whole stands answers alone script settings events bound shards few_shards managers few_managers run =
+    let is : IsRun script settings events = is_run script settings events bound shards few_shards managers few_managers run in
     record {
       run = run;
       history = history script settings events is;

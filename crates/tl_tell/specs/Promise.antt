@@ -72,7 +72,7 @@ pub record IsOneHistory (script : Script) (settings : Settings) (events : List E
 
 -- so it is of each run of a script that can be run
 abbrev pub RunsAreOneHistory : Type 0
-RunsAreOneHistory = (script : Script) (settings : Settings) (events : List Event) → IsBound script settings → 1 ≤ settings.shards → 1 ≤ settings.managers
+RunsAreOneHistory = (script : Script) (settings : Settings) (events : List Event) → IsBound script settings → 1 ≤ settings.shards → settings.shards ≤ 16 → 1 ≤ settings.managers → settings.managers ≤ 4
     → HasRun script settings events → IsOneHistory script settings events
 
 -- the words give the settings, the input is the script, and the journal is that of its run

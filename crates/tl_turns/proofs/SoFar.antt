@@ -281,7 +281,15 @@ pub finishes : (script : Script) (settings : Settings) (w : WorldValue) (c : cod
     → turn_at script w.events (clock_of c) ≡ None → HasRun script settings w.events
 finishes script settings w c h none =
     let run : IsRun script w.settings w.events =
-    record { bound = h.stands.bound; shards = h.stands.shards; managers = h.stands.managers; few = h.stands.few; trace = h.stands.trace } in
+    record {
+      bound = h.stands.bound;
+      shards = h.stands.shards;
+      few_shards = h.stands.few_shards;
+      managers = h.stands.managers;
+      few_managers = h.stands.few_managers;
+      few = h.stands.few;
+      trace = h.stands.trace;
+    } in
     let next : next_round script w.events (clock_of c).last ≡ None = no_turn script w.events (clock_of c) none in
     subst (λ (x : Settings). HasRun script x w.events) h.settings_are
     (record {

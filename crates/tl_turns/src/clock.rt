@@ -11,8 +11,8 @@ ghost use Rattle.tl_world.specs.Stands.{Stands};
 
 use tl_base::NodeId;
 use tl_isolation::TurnItem;
-use tl_manager::{ManagerRequest, Request};
 use tl_journal::Event;
+use tl_manager::{ManagerRequest, Request};
 use tl_world::World;
 
 /// The items of the schedule that are left, and the node that had the last turn behind them, after some events.

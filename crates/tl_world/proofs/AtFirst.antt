@@ -91,13 +91,16 @@ opened_next script settings catalog sessions slots at session slot within is ope
 abbrev pub first_world : Settings → PlacesState → List SlotValue → WorldValue
 first_world settings places slots = record { settings = settings; places = places; slots = slots; commits = 0 ∷ []; events = [] }
 
-pub opens : LogsAreServed → (script : Script) (settings : Settings) → IsBound script settings → 1 ≤ settings.shards → 1 ≤ settings.managers → length script.rows < 2 ^ 32
+pub opens : LogsAreServed → (script : Script) (settings : Settings) → IsBound script settings → 1 ≤ settings.shards → settings.shards ≤ 16 → 1 ≤ settings.managers
+    → settings.managers ≤ 4 → length script.rows < 2 ^ 32
     → (places : PlacesState) → AreAt script settings [] places → (slots : List SlotValue) → AreOpened script settings script.catalog script.sessions slots
     → Stands script (first_world settings places slots)
-opens served_law script settings bound shards managers few places at slots h = record {
+opens served_law script settings bound shards few_shards managers few_managers few places at slots h = record {
   bound = bound;
   shards = shards;
+  few_shards = few_shards;
   managers = managers;
+  few_managers = few_managers;
   few_rows = few;
   few = omega arith;
   trace = record { served = served_law script settings [] places at tt; events_are = tt };
@@ -107,10 +110,11 @@ opens served_law script settings bound shards managers few places at slots h = r
 }
 
 -- by what the parts of a new world are
-pub opens_so : LogsAreServed → (script : Script) (settings : Settings) → IsBound script settings → 1 ≤ settings.shards → 1 ≤ settings.managers → length script.rows < 2 ^ 32
+pub opens_so : LogsAreServed → (script : Script) (settings : Settings) → IsBound script settings → 1 ≤ settings.shards → settings.shards ≤ 16 → 1 ≤ settings.managers
+    → settings.managers ≤ 4 → length script.rows < 2 ^ 32
     → (w : WorldValue) → w.settings ≡ settings → AreAt script w.settings [] w.places → AreOpened script settings script.catalog script.sessions w.slots → w.commits ≡ 0 ∷ []
     → w.events ≡ [] → Stands script w
-opens_so served_law script settings bound shards managers few w e at h f g =
+opens_so served_law script settings bound shards few_shards managers few_managers few w e at h f g =
     subst (λ x. Stands script x)
     (sym (λ i. record { settings = e i; places = w.places; slots = w.slots; commits = f i; events = g i }))
-    (opens served_law script settings bound shards managers few w.places (subst (λ x. AreAt script x [] w.places) e at) w.slots h)
+    (opens served_law script settings bound shards few_shards managers few_managers few w.places (subst (λ x. AreAt script x [] w.places) e at) w.slots h)

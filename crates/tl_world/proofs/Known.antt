@@ -111,7 +111,9 @@ module _ (script : Script) (w : WorldValue) (s : Stands script w) (number : ℕ)
   stands_but = record {
     bound = s.bound;
     shards = s.shards;
+    few_shards = s.few_shards;
     managers = s.managers;
+    few_managers = s.few_managers;
     few_rows = s.few_rows;
     few = s.few;
     trace = s.trace;

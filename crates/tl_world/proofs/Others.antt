@@ -36,7 +36,7 @@ none_some : {A : Type 0} (x : A) → ◌≡◌ {A = Option A} None (Some x) → 
 none_some x e = cc
 
 pub run_of : (script : Script) (w : WorldValue) (R : Session → NodeValue → Type 0) → StandsAs R script w → IsRun script w.settings w.events
-run_of script w R s = record { bound = s.bound; shards = s.shards; managers = s.managers; few = s.few; trace = s.trace }
+run_of script w R s = record { bound = s.bound; shards = s.shards; few_shards = s.few_shards; managers = s.managers; few_managers = s.few_managers; few = s.few; trace = s.trace }
 
 pub vanish_own : (script : Script) (node : ℕ) (v : Option Vanish) → v ≡ vanish_of script node → (x : Vanish) → v ≡ Some x → x.node ≡ node
 vanish_own script node v e x is = eqb-true x.node node (passes (λ (y : Vanish). y.node == node) script.vanishes x (sym e ∙ is))
@@ -152,7 +152,9 @@ module _ (script : Script) (w : WorldValue) (R S : Session → NodeValue → Typ
   stands_more more at = record {
     bound = s.bound;
     shards = s.shards;
+    few_shards = s.few_shards;
     managers = s.managers;
+    few_managers = s.few_managers;
     few_rows = s.few_rows;
     few = more.few;
     trace = more.trace;

@@ -97,7 +97,9 @@ module _ (script : Script) (settings : Settings) (past : List Event) (run : IsRu
       record {
         bound = run.bound;
         shards = run.shards;
+        few_shards = run.few_shards;
         managers = run.managers;
+        few_managers = run.few_managers;
         few = subst (λ (k : ℕ). k < 2 ^ 32) (sym more) few;
         trace = record {
           served = served;

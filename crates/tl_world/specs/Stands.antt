@@ -76,7 +76,9 @@ HasSlot R script events (Some session) (Some slot) = IsSlot (R session) script e
 pub record StandsAs (R : Session → NodeValue → Type 0) (script : Script) (w : WorldValue) : Type 0 where
   pub bound : IsBound script w.settings
   pub shards : 1 ≤ w.settings.shards
+  pub few_shards : w.settings.shards ≤ 16
   pub managers : 1 ≤ w.settings.managers
+  pub few_managers : w.settings.managers ≤ 4
   pub few_rows : length script.rows < 2 ^ 32
   pub few : length w.events < 2 ^ 32
   pub trace : IsTrace script w.settings w.events

@@ -52,8 +52,8 @@ returns-clause-first c script settings past e rest run tid snapshot floor told =
 
 -- src/law.rt:5:1
 pub returns-clause-heeded : goal.returns-clause-heeded
-returns-clause-heeded c script settings past e rest run short request session is_session ask asked told =
-    nothing_strange script settings past e rest run short request session is_session ask asked told
+returns-clause-heeded c script settings past e rest run short request session is_session ask asked =
+    nothing_strange script settings past e rest run short request session is_session ask asked
 
 -- src/law.rt:5:1
 pub returns-clause-own : goal.returns-clause-own

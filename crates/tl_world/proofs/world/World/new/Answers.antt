@@ -7,6 +7,7 @@ use Rattle.tl_world.proofs.world.World.new.Goals as goal
 pub returns-clause-stands : goal.returns-clause-stands
 returns-clause-stands c = λ bound few.
     let empty : c.new-2.result.items ≡ [] = search rules in
-    opens_so c.places_serve_their_logs.ensures c.args.script.now c.args.settings.now bound c.requires.least_shards c.requires.least_managers few _ c.new-terms.ensures
+    opens_so c.places_serve_their_logs.ensures c.args.script.now c.args.settings.now bound c.requires.least_shards c.requires.greatest_shards
+    c.requires.least_managers c.requires.greatest_managers few _ c.new-terms.ensures
     (subst (λ (x : Settings). AreAt c.args.script.now x [] c.in_ok-places.places) c.layout.ensures c.in_ok-places.ensures)
     c.in_ok-slots.ensures c.in_ok-commits.ensures empty
