@@ -499,6 +499,7 @@ insert_fits : StatementFits catalog_t insert_one
 insert_fits =
     record {
       suits = record { table = omega arith; change = (record { width = refl; values = (fits_account 1 10 refl refl).values; kinds = refl }, tt) };
+      once = tt;
       keyed = keyed_t;
       table = record { columns = omega arith; key = omega arith };
     }

@@ -9,6 +9,8 @@ use Rattle.tl_schema.specs.declared.catalog.Table.{Table}
 use Rattle.tl_schema.specs.Row.{row_spelling}
 use Rattle.tl_versions.specs.Cell.{AreChanges}
 use Rattle.tl_algebra.specs.declared.edit.Edit.{Edit}
+use Rattle.tl_algebra.specs.declared.edit.Edit.TheVariants.{Insert, Update, Delete}
+use Rattle.tl_algebra.specs.declared.edit.SetColumn.{SetColumn}
 use Rattle.tl_algebra.specs.declared.query.Join.{Join}
 use Rattle.tl_algebra.specs.declared.query.Query.{Query}
 use Rattle.tl_write.specs.declared.write.Write.{Write}
@@ -64,9 +66,21 @@ pub record QueryFits (catalog : Catalog) (query : Query) : Type 0 where
   pub suits : SuitsQuery catalog query
   pub keyed : AllByRecursion (λ (join : Join). IsKeyed (table_of catalog join.table)) query.from
 
+-- no two of these have one number
+abbrev pub EachOnce : {A : Type 0} → (A → ℕ) → List A → Type 0
+EachOnce number_in [] = Unit {0}
+EachOnce number_in (x ∷ xs) = (list_any (λ y. number_in x == number_in y) xs ≡ false) × EachOnce number_in xs
+
+-- SET names no column twice
+abbrev pub SetsOnce : Edit → Type 0
+SetsOnce (Insert number rows) = Unit {0}
+SetsOnce (Update number sets where_) = EachOnce (λ (set : SetColumn). set.column) sets
+SetsOnce (Delete number where_) = Unit {0}
+
 -- a change of a table with a primary key
 pub record EditFits (catalog : Catalog) (edit : Edit) : Type 0 where
   pub suits : Suits catalog edit
+  pub once : SetsOnce edit
   pub keyed : IsKeyed (table_of catalog (number_of edit))
   pub table : TableFits (table_of catalog (number_of edit))
 
@@ -76,11 +90,6 @@ StatementFits catalog (bound.Select query) = QueryFits catalog query
 StatementFits catalog (bound.Change edit) = EditFits catalog edit
 StatementFits catalog (bound.Recover gone) = (1 ≤ gone) × (gone ≤ 16)
 StatementFits catalog statement = Unit {0}
-
--- no two of these have one number
-abbrev pub EachOnce : {A : Type 0} → (A → ℕ) → List A → Type 0
-EachOnce number_in [] = Unit {0}
-EachOnce number_in (x ∷ xs) = (list_any (λ y. number_in x == number_in y) xs ≡ false) × EachOnce number_in xs
 
 -- a script that the reader lets through
 pub record IsBound (script : Script) (settings : Settings) : Type 0 where

@@ -90,13 +90,13 @@ statement_fits names Commit r = tt
 statement_fits names Rollback r = tt
 statement_fits names (Recover node) r = (r.from, r.to)
 statement_fits names (Insert key other) r =
-    record { suits = record { table = omega arith; change = (fits_table names key other r.0 r.1, tt) }; keyed = keyed names; table = table_fits names }
+    record { suits = record { table = omega arith; change = (fits_table names key other r.0 r.1, tt) }; once = tt; keyed = keyed names; table = table_fits names }
 statement_fits names SelectAll r = query_fits names None refl
 statement_fits names (Select key) r = query_fits names (Some (key_is key)) (key_alike names key r)
 statement_fits names (Update other key) r =
-    record { suits = record { table = omega arith; change = (refl, set_fits names other r.0, key_alike names key r.1) }; keyed = keyed names; table = table_fits names }
+    record { suits = record { table = omega arith; change = (refl, set_fits names other r.0, key_alike names key r.1) }; once = (refl, tt); keyed = keyed names; table = table_fits names }
 statement_fits names (Delete key) r =
-    record { suits = record { table = omega arith; change = key_alike names key r }; keyed = keyed names; table = table_fits names }
+    record { suits = record { table = omega arith; change = key_alike names key r }; once = tt; keyed = keyed names; table = table_fits names }
 
 -- a row of two numbers that fit 64 bits
 pub record IsOpening (o : OpeningRow) : Type 0 where
