@@ -1,44 +1,12 @@
-use crate::{Buffer, ChangeFault, Effect, Write, Writes, change};
+use crate::fixtures::{column, expect_rows, rows, test};
 use std::alloc::Global;
 use std::process::Abort;
 use std::test::Fail;
-use tl_algebra::{Condition, Edit, Expression, Operator, SetColumn, Side, Step};
+use tl_algebra::{Edit, Expression, Operator, SetColumn, Step};
 use tl_base::{Boxed, Bytes, Items, NoMemory, Text};
-use tl_schema::{Column, Table, store_key};
-use tl_values::{Comparison, Kind, Row, Rows, Value, copy_row, encode_key};
-
-// NULL, or else a number.
-fn value(word: &str) -> Value {
-    match word.parse::<i64>() {
-        Ok(number) => Value::Int(number),
-        Err(_) => Value::Null,
-    }
-}
-
-// The values of the words, which stand between blanks.
-fn row(alloc: Global, words: &str) -> Result<Row, NoMemory> {
-    let mut row = Row::new(alloc);
-    for word in words.split(' ') {
-        row.push(value(word))?;
-    }
-    Ok(row)
-}
-
-fn rows(alloc: Global, texts: &[&str]) -> Result<Rows, NoMemory> {
-    let mut rows = Rows::new(alloc);
-    for text in texts {
-        rows.push(row(alloc, text)?)?;
-    }
-    Ok(rows)
-}
-
-fn column(alloc: Global, name: &str) -> Result<Column, NoMemory> {
-    Ok(Column {
-        name: Text::from_str(alloc, name)?,
-        kind: Kind::Int,
-        not_null: true,
-    })
-}
+use tl_schema::{Table, store_key};
+use tl_values::{Comparison, Rows, Value, copy_row};
+use tl_write::{Buffer, ChangeFault, Effect, Write, Writes, change};
 
 // CREATE TABLE account (id INT PRIMARY KEY, balance INT NOT NULL), which has number 0.
 fn account(alloc: Global) -> Result<Table, NoMemory> {
@@ -79,16 +47,8 @@ fn edit(alloc: Global, case: Case) -> Result<Edit, NoMemory> {
         }),
         Case::Delete(number) => Ok(Edit::Delete {
             table: 0,
-            filter: Some(is_id(number)),
+            filter: Some(test(0, Comparison::Equal, number)),
         }),
-    }
-}
-
-fn is_id(number: i64) -> Condition {
-    Condition::Test {
-        left: Side::Place(0),
-        by: Comparison::Equal,
-        right: Side::Literal(Value::Int(number)),
     }
 }
 
@@ -148,27 +108,6 @@ fn rows_left(alloc: Global, writes: &[Write]) -> Result<Rows, NoMemory> {
         }
     }
     Ok(left)
-}
-
-fn expect_row(rt: &impl Abort, alloc: Global, found: &Row, text: &str) -> Result<(), NoMemory> {
-    let found = encode_key(alloc, found.as_slice())?;
-    let expected = encode_key(alloc, row(alloc, text)?.as_slice())?;
-    assert_eq!(rt; found.as_slice(), expected.as_slice());
-    Ok(())
-}
-
-// The rows are those of the texts.
-fn expect_rows(
-    rt: &impl Abort,
-    alloc: Global,
-    found: &[Row],
-    texts: &[&str],
-) -> Result<(), NoMemory> {
-    assert_eq!(rt; found.len(), texts.len());
-    for (found, text) in found.iter().zip(texts) {
-        expect_row(rt, alloc, found, text)?;
-    }
-    Ok(())
 }
 
 fn expect_effect(

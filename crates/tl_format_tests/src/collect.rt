@@ -1,19 +1,7 @@
-use crate::{Floors, least_begins_all};
-use std::alloc::Global;
+use crate::fixtures::set_of;
 use std::test::Fail;
 use tl_base::Tid;
-use tl_descriptor::Descriptor;
-
-/// Tid 0 and these.
-fn set_of(alloc: Global, tids: &[Tid]) -> Result<Descriptor, Fail> {
-    let mut set = Descriptor::new(alloc, 0);
-    for tid in tids {
-        if *tid < 1 << 62 {
-            set.insert(*tid)?;
-        }
-    }
-    Ok(set)
-}
+use tl_collect::{Floors, least_begins_all};
 
 #[test]
 fn the_manager_behind_holds_the_least(rt: HostRuntime) -> Result<(), Fail> {

@@ -1,13 +1,13 @@
-use crate::cases::{ONE, ONE_TWO, all, pair, test};
-use crate::{finish, make_plan};
+use crate::access::{ONE, ONE_TWO, all, pair};
+use crate::fixtures::{rows, test};
 use std::alloc::Global;
-use std::process::Abort;
 use std::test::Fail;
 use tl_algebra::{Condition, Edit, Expression, Join, Output, Query};
-use tl_base::{Bytes, Duplicate, Items, NoMemory, Text};
+use tl_base::{Bytes, Items, NoMemory, Text};
 use tl_isolation::Bound;
+use tl_plan::{copy_bound, finish, make_plan};
 use tl_schema::{Access, Catalog};
-use tl_values::{Comparison, Row, Rows, Value};
+use tl_values::{Comparison, Row, Value};
 
 // Tables whose key is both columns, and the first one.
 fn catalog(alloc: Global) -> Result<Catalog, NoMemory> {
@@ -15,13 +15,6 @@ fn catalog(alloc: Global) -> Result<Catalog, NoMemory> {
     tables.push(pair(alloc, &[0, 1])?)?;
     tables.push(pair(alloc, &[0])?)?;
     Ok(Catalog { tables })
-}
-
-fn row(alloc: Global, a: Value, b: Value) -> Result<Row, NoMemory> {
-    let mut row = Row::new(alloc);
-    row.push(a)?;
-    row.push(b)?;
-    Ok(row)
 }
 
 // The second column of both tables.
@@ -55,24 +48,16 @@ fn update(alloc: Global) -> Result<Bound, NoMemory> {
     })
 }
 
-// Three rows: one has a NULL in its key, and the key of another is long.
-fn insert(alloc: Global) -> Result<Bound, NoMemory> {
-    let mut rows = Rows::new(alloc);
-    rows.push(row(alloc, Value::Null, Value::Int(1))?)?;
-    rows.push(row(alloc, Value::Text(long(alloc)?), Value::Int(1))?)?;
-    rows.push(row(alloc, Value::Int(1), Value::Null)?)?;
+// Three rows: one has a NULL in its key, and the key bytes of another are 256.
+fn insert(alloc: Global) -> Result<Bound, Fail> {
+    let mut rows = rows(alloc, &["NULL 1", "1 NULL"])?;
+    let mut long = Row::new(alloc);
+    let letters = String::from_utf8(vec![in alloc; b'x'; 253]?)?;
+    long.push(Value::Text(Text::from_string(letters)))?;
+    rows.push(long)?;
     Ok(Bound::Change {
         edit: Edit::Insert { table: 1, rows },
     })
-}
-
-// A text whose key bytes are 256.
-fn long(alloc: Global) -> Result<Text, NoMemory> {
-    let mut text = String::new(alloc);
-    for _ in 0..253 {
-        text.push('x')?;
-    }
-    Ok(Text::from_string(text))
 }
 
 fn push_key(keys: &mut Bytes, access: &Access) -> Result<(), NoMemory> {
@@ -103,17 +88,17 @@ fn a_statement_reads_what_it_names(rt: HostRuntime) -> Result<(), Fail> {
     Ok(())
 }
 
+// How many rows the statement has over tables of one row.
+fn printed(alloc: Global, bound: &Bound) -> Result<usize, Fail> {
+    let plan = make_plan(alloc, &copy_bound(alloc, bound)?, &catalog(alloc)?)?;
+    let tables = [rows(alloc, &["1 2"])?, rows(alloc, &["1 2"])?];
+    Ok(finish(alloc, &plan, &tables)?.len())
+}
+
 #[test]
 fn only_a_select_has_rows(rt: HostRuntime) -> Result<(), Fail> {
     let alloc = rt.alloc();
-    let catalog = catalog(alloc)?;
-    let mut first = Rows::new(alloc);
-    first.push(row(alloc, Value::Int(1), Value::Int(2))?)?;
-    let second = first.copy()?;
-    let tables = [first, second];
-    let plan = make_plan(alloc, &select(alloc, None)?, &catalog)?;
-    assert_eq!(rt; finish(alloc, &plan, &tables)?.len(), 1);
-    let plan = make_plan(alloc, &Bound::Begin, &catalog)?;
-    assert!(rt; finish(alloc, &plan, &tables)?.is_empty());
+    assert_eq!(rt; printed(alloc, &select(alloc, None)?)?, 1);
+    assert_eq!(rt; printed(alloc, &Bound::Begin)?, 0);
     Ok(())
 }
