@@ -48,21 +48,25 @@ fn bytes_and_flags_are_read_from_the_left(rt: HostRuntime) -> Result<(), Fail> {
     Ok(())
 }
 
-fn two_items(alloc: Global) -> Result<Items<Bytes>, Fail> {
+fn two_items(alloc: Global) -> Result<Bytes, Fail> {
     let mut items = Items::new(alloc);
     items.push(Bytes::from_slice(alloc, b"ab")?)?;
     items.push(Bytes::new(alloc))?;
-    Ok(items)
+    let mut bytes = Bytes::new(alloc);
+    write_many(items.as_slice(), &mut bytes)?;
+    Ok(bytes)
 }
+
+static TWO_ITEMS: [u8; 6] = [0, 2, b'a', b'b', 0, 0];
 
 #[test]
 fn items_stand_one_after_the_other(rt: HostRuntime) -> Result<(), Fail> {
-    let alloc = rt.alloc();
-    let items = two_items(alloc)?;
-    let mut bytes = Bytes::new(alloc);
-    write_many(items.as_slice(), &mut bytes)?;
-    assert_eq!(rt; bytes.as_slice(), [0, 2, b'a', b'b', 0, 0].as_slice());
-    let (read, _) = read_many::<Bytes>(alloc, bytes.as_slice(), 2)?;
-    assert!(rt; read == items);
+    assert_eq!(rt; two_items(rt.alloc())?.as_slice(), TWO_ITEMS.as_slice());
+    let (items, _) = read_many::<Bytes>(rt.alloc(), &TWO_ITEMS, 2)?;
+    assert_eq!(rt;
+        items.get(0).map(|item| item.as_slice()),
+        Some(b"ab".as_slice())
+    );
+    assert_eq!(rt; items.len(), 2);
     Ok(())
 }

@@ -22,9 +22,9 @@ use crate::terms::Terms;
 use std::alloc::Global;
 use tl_base::{Items, NoMemory, NodeId, PlaceId, Settings, Tid};
 use tl_isolation::{Ending, Entry, Script};
+use tl_journal::{Event, Journal};
 use tl_manager::Request;
 use tl_places::{Places, places_serve_their_logs};
-use tl_journal::{Event, Journal};
 
 /// What a node's turn came to.
 #[derive(Clone, Copy, Debug, PartialEq, Eq)]

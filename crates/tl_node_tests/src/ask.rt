@@ -1,10 +1,10 @@
-use crate::{
+use std::alloc::Global;
+use std::test::Fail;
+use tl_ask::{
     Asked, Layout, TxnId, ask_manager, draw_numbers, hear_commits, hear_log, hear_manager,
     hear_numbers, hear_page, hear_record, hear_store, load_commits, load_log, load_record,
     read_page, requests_alike, store_commits, store_log, store_record,
 };
-use std::alloc::Global;
-use std::test::Fail;
 use tl_base::{Bytes, Item, Items, NodeId, Settings, Stamp, StoreReply};
 use tl_descriptor::Descriptor;
 use tl_manager::{ManagerReply, ManagerRequest, Reply};

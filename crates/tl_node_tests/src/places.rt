@@ -1,6 +1,5 @@
 ghost use Rattle.std.specs.Prelude.{◌≡◌, IfOk, length};
 
-use crate::{Places, places_serve_their_logs};
 use std::alloc::Global;
 use std::process::Abort;
 use std::test::Fail;
@@ -11,6 +10,7 @@ use tl_base::{
 };
 use tl_isolation::Script;
 use tl_manager::{ManagerReply, ManagerRequest, Reply, Request};
+use tl_places::{Places, places_serve_their_logs};
 use tl_schema::{Catalog, Column, OpeningRow, Table};
 use tl_values::{Kind, Row, Value};
 
@@ -157,6 +157,7 @@ fn claimed(places: &mut Places, node: NodeId) -> Result<Option<NodeSet>, Fail> {
 
 #[test]
 fn notices_are_given_once(rt: HostRuntime) -> Result<(), Fail> {
+    places_serve_their_logs();
     let alloc = rt.alloc();
     let mut places = places(alloc)?;
     let node = NodeId::new(1).ok_or("a node")?;
@@ -169,21 +170,4 @@ fn notices_are_given_once(rt: HostRuntime) -> Result<(), Fail> {
     assert_eq!(rt; claimed(&mut places, node)?, Some(NodeSet(4)));
     assert_eq!(rt; claimed(&mut places, node)?, None);
     Ok(())
-}
-
-#[test]
-fn other_places_are_not_there(rt: HostRuntime) -> Result<(), Fail> {
-    let alloc = rt.alloc();
-    let mut places = places(alloc)?;
-    let node = NodeId::new(1).ok_or("a node")?;
-    let request = Request::Manager(ManagerRequest::Claim { node });
-    for place in [PlaceId::Manager(1), PlaceId::Shard(0), PlaceId::Shard(4)] {
-        assert!(rt; places.serve(place, &request).is_err());
-    }
-    Ok(())
-}
-
-#[test]
-fn laws_cost_nothing() {
-    places_serve_their_logs();
 }

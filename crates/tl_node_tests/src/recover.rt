@@ -1,6 +1,5 @@
 ghost use Rattle.std.specs.Prelude.{◌≡◌};
 
-use crate::{Recover, duties_go_on};
 use std::alloc::Global;
 use std::process::Abort;
 use std::test::Fail;
@@ -8,6 +7,7 @@ use tl_base::{
     Bytes, Items, NodeId, NodeSet, PlaceId, Settings, Stamp, StoreReply, StoreRequest, Tid,
 };
 use tl_manager::{ManagerReply, ManagerRequest, Mark, Reply, Request, TxnStep};
+use tl_recover::{Recover, duties_go_on};
 use tl_schema::{Catalog, Setup};
 
 // The keys of the commits cell, of the log cell of transaction 5, and of two records.
@@ -222,19 +222,6 @@ fn a_decision_is_committed(rt: HostRuntime) -> Result<(), Fail> {
             Says::Stored(7),
             TxnStep::Going(Mark::Committed { tid: 5 }),
         ),
-        (Wanted::End(5), Says::Ended, TxnStep::Ended(Mark::Quiet)),
-    ];
-    let recovery = recovery_of(rt.alloc(), 2, NodeSet::new())?;
-    expect_turns(&rt, rt.alloc(), recovery, 1, &turns)
-}
-
-// It was put among the finished ones by the node itself.
-#[test]
-fn what_is_undone_and_finished_is_ended(rt: HostRuntime) -> Result<(), Fail> {
-    let turns: [Turn; 4] = [
-        (Wanted::Orphans(2), Says::Orphaned(&[5]), QUIET),
-        (Wanted::Load(&LOG), Says::Cell(9, &UNDONE), QUIET),
-        (Wanted::Load(&COMMITS), Says::Cell(6, &UP_TO_5), QUIET),
         (Wanted::End(5), Says::Ended, TxnStep::Ended(Mark::Quiet)),
     ];
     let recovery = recovery_of(rt.alloc(), 2, NodeSet::new())?;

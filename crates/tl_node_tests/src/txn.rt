@@ -1,4 +1,3 @@
-use crate::Txn;
 use std::alloc::Global;
 use std::process::Abort;
 use std::test::Fail;
@@ -6,6 +5,7 @@ use tl_base::{Bytes, Item, Items, NodeId, Settings, StoreReply};
 use tl_descriptor::Descriptor;
 use tl_manager::{ManagerReply, Reply};
 use tl_schema::{Access, Catalog, Setup};
+use tl_txn::Txn;
 use tl_values::{Row, Value};
 use tl_write::Write;
 
@@ -118,21 +118,135 @@ fn run(
     Ok(())
 }
 
+static BEGINS: [(Told, &'static str); 2] = [
+    (
+        Told::Cell(1, &NONE_FINISHED),
+        "Some(Going(Asked)) Some((Manager(0), Manager(Begin { node: NodeId { number: 1 }, seen: Descriptor { base: 0, runs: Items { items: [] } } })))",
+    ),
+    (Told::Began(1), "Some(Ready(Began { tid: 1 })) None"),
+];
+
+static DRAWS: [(Told, &'static str); 5] = [
+    (
+        Told::Cell(1, &NONE_FINISHED),
+        "Some(Going(Asked)) Some((Manager(0), Manager(Begin { node: NodeId { number: 1 }, seen: Descriptor { base: 0, runs: Items { items: [] } } })))",
+    ),
+    (
+        Told::NeedRange,
+        "Some(Going(Quiet)) Some((Shard(0), Store(Add { key: Bytes { bytes: [2] }, by: 16 })))",
+    ),
+    (
+        Told::Count(0),
+        "Some(Going(Quiet)) Some((Manager(0), Manager(Range { low: 1, high: 16 })))",
+    ),
+    (
+        Told::Ranged,
+        "Some(Going(Quiet)) Some((Manager(0), Manager(Begin { node: NodeId { number: 1 }, seen: Descriptor { base: 0, runs: Items { items: [] } } })))",
+    ),
+    (Told::Began(1), "Some(Ready(Began { tid: 1 })) None"),
+];
+
+static COMMITS: [(Told, &'static str); 12] = [
+    (
+        Told::Stored(1),
+        "Some(Going(Tried { tid: 1 })) Some((Shard(0), Store(Load { key: Bytes { bytes: [4, 0, 2, 128, 0, 0, 0, 0, 0, 0, 1] } })))",
+    ),
+    (
+        Told::Cell(3, &CELL),
+        "Some(Going(Quiet)) Some((Shard(0), Store(StoreIf { key: Bytes { bytes: [4, 0, 2, 128, 0, 0, 0, 0, 0, 0, 1] }, stamp: 3, value: Bytes { bytes: [1, 0, 0, 0, 2, 0, 0, 0, 0, 0, 0, 0, 1, 1, 0, 19, 2, 2, 0, 0, 0, 0, 0, 0, 0, 1, 2, 0, 0, 0, 0, 0, 0, 0, 10, 0, 0, 0, 0, 0, 0, 0, 0, 1, 0, 19, 2, 2, 0, 0, 0, 0, 0, 0, 0, 1, 2, 0, 0, 0, 0, 0, 0, 0, 10] } })))",
+    ),
+    (
+        Told::Moved(4),
+        "Some(Going(Quiet)) Some((Shard(0), Store(Load { key: Bytes { bytes: [4, 0, 2, 128, 0, 0, 0, 0, 0, 0, 1] } })))",
+    ),
+    (
+        Told::Cell(4, &CELL),
+        "Some(Going(Quiet)) Some((Shard(0), Store(StoreIf { key: Bytes { bytes: [4, 0, 2, 128, 0, 0, 0, 0, 0, 0, 1] }, stamp: 4, value: Bytes { bytes: [1, 0, 0, 0, 2, 0, 0, 0, 0, 0, 0, 0, 1, 1, 0, 19, 2, 2, 0, 0, 0, 0, 0, 0, 0, 1, 2, 0, 0, 0, 0, 0, 0, 0, 10, 0, 0, 0, 0, 0, 0, 0, 0, 1, 0, 19, 2, 2, 0, 0, 0, 0, 0, 0, 0, 1, 2, 0, 0, 0, 0, 0, 0, 0, 10] } })))",
+    ),
+    (
+        Told::Stored(5),
+        "Some(Going(Quiet)) Some((Shard(0), Store(StoreIf { key: Bytes { bytes: [3, 0, 0, 0, 0, 0, 0, 0, 1] }, stamp: 1, value: Bytes { bytes: [1, 0, 0, 0, 0, 0, 0, 0, 1, 1, 1, 0, 0, 0, 1, 0, 11, 4, 0, 2, 128, 0, 0, 0, 0, 0, 0, 1] } })))",
+    ),
+    (
+        Told::Stored(2),
+        "Some(Going(Quiet)) Some((Shard(0), Store(Load { key: Bytes { bytes: [1] } })))",
+    ),
+    (
+        Told::Cell(1, &NONE_FINISHED),
+        "Some(Going(Quiet)) Some((Shard(0), Store(StoreIf { key: Bytes { bytes: [1] }, stamp: 1, value: Bytes { bytes: [0, 0, 0, 0, 0, 0, 0, 1, 0, 0, 0, 0] } })))",
+    ),
+    (
+        Told::Moved(2),
+        "Some(Going(Quiet)) Some((Shard(0), Store(Load { key: Bytes { bytes: [1] } })))",
+    ),
+    (
+        Told::Cell(2, &NONE_FINISHED),
+        "Some(Going(Quiet)) Some((Shard(0), Store(StoreIf { key: Bytes { bytes: [1] }, stamp: 2, value: Bytes { bytes: [0, 0, 0, 0, 0, 0, 0, 1, 0, 0, 0, 0] } })))",
+    ),
+    (
+        Told::Stored(3),
+        "Some(Going(Committed { tid: 1 })) Some((Manager(0), Manager(End { tid: 1 })))",
+    ),
+    (Told::Ended, "Some(Ended(Answered)) None"),
+    (Told::Ended, "None None"),
+];
+
+static CLASHES: [(Told, &'static str); 2] = [
+    (
+        Told::Stored(1),
+        "Some(Going(Tried { tid: 1 })) Some((Shard(0), Store(Load { key: Bytes { bytes: [4, 0, 2, 128, 0, 0, 0, 0, 0, 0, 1] } })))",
+    ),
+    (
+        Told::Cell(3, &DELETION),
+        "Some(Going(Clashed { tid: 1, rival: 2, at: 0 })) Some((Shard(0), Store(StoreIf { key: Bytes { bytes: [3, 0, 0, 0, 0, 0, 0, 0, 1] }, stamp: 1, value: Bytes { bytes: [1, 0, 0, 0, 0, 0, 0, 0, 1, 1, 2, 0, 0, 0, 1, 0, 11, 4, 0, 2, 128, 0, 0, 0, 0, 0, 0, 1] } })))",
+    ),
+];
+
+static UNDOES: [(Told, &'static str); 3] = [
+    (
+        Told::Stored(2),
+        "Some(Going(Quiet)) Some((Shard(0), Store(Load { key: Bytes { bytes: [1] } })))",
+    ),
+    (
+        Told::Cell(1, &NONE_FINISHED),
+        "Some(Going(Quiet)) Some((Shard(0), Store(StoreIf { key: Bytes { bytes: [1] }, stamp: 1, value: Bytes { bytes: [0, 0, 0, 0, 0, 0, 0, 1, 0, 0, 0, 0] } })))",
+    ),
+    (
+        Told::Stored(2),
+        "Some(Going(Undone { tid: 1 })) Some((Manager(0), Manager(End { tid: 1 })))",
+    ),
+];
+
+static ENDS: [(Told, &'static str); 1] = [(Told::Ended, "Some(Ended(Answered)) None")];
+
+static GIVES_UP: [(Told, &'static str); 3] = [
+    (
+        Told::Cell(1, &NONE_FINISHED),
+        "Some(Going(Quiet)) Some((Shard(0), Store(StoreIf { key: Bytes { bytes: [1] }, stamp: 1, value: Bytes { bytes: [0, 0, 0, 0, 0, 0, 0, 1, 0, 0, 0, 0] } })))",
+    ),
+    (
+        Told::Stored(2),
+        "Some(Going(Undone { tid: 1 })) Some((Manager(0), Manager(End { tid: 1 })))",
+    ),
+    (Told::Ended, "Some(Ended(Answered)) None"),
+];
+
+static READS: [(Told, &'static str); 3] = [
+    (
+        Told::Page(&CELL, true),
+        "Some(Going(Quiet)) Some((Shard(0), Store(Page { from: Bytes { bytes: [4, 0, 2, 128, 0, 0, 0, 0, 0, 0, 1, 0] }, before: Bytes { bytes: [4, 0, 4] }, limit: 64 })))",
+    ),
+    (
+        Told::Page(&DELETION, false),
+        "Some(Going(Quiet)) Some((Shard(1), Store(Page { from: Bytes { bytes: [4, 0, 1] }, before: Bytes { bytes: [4, 0, 4] }, limit: 64 })))",
+    ),
+    (Told::Page(&CELL, false), "Some(Ready(Quiet)) None"),
+];
+
 /// A transaction that is ready: it has the number 1, and sees what stood before all transactions.
 fn begun(rt: &impl Abort, alloc: Global, shards: u8) -> Result<Txn, Fail> {
     let mut txn = start(alloc, shards)?;
-    run(
-        rt,
-        alloc,
-        &mut txn,
-        &[
-            (
-                Told::Cell(1, &NONE_FINISHED),
-                "Some(Going(Asked)) Some((Manager(0), Manager(Begin { node: NodeId { number: 1 }, seen: Descriptor { base: 0, runs: Items { items: [] } } })))",
-            ),
-            (Told::Began(1), "Some(Ready(Began { tid: 1 })) None"),
-        ],
-    )?;
+    run(rt, alloc, &mut txn, &BEGINS)?;
     assert!(rt; txn.is_ready());
     Ok(txn)
 }
@@ -161,30 +275,7 @@ fn commit(rt: &impl Abort, alloc: Global, txn: &mut Txn) -> Result<(), Fail> {
 #[test]
 fn it_draws_numbers(rt: HostRuntime) -> Result<(), Fail> {
     let mut txn = start(rt.alloc(), 1)?;
-    run(
-        &rt,
-        rt.alloc(),
-        &mut txn,
-        &[
-            (
-                Told::Cell(1, &NONE_FINISHED),
-                "Some(Going(Asked)) Some((Manager(0), Manager(Begin { node: NodeId { number: 1 }, seen: Descriptor { base: 0, runs: Items { items: [] } } })))",
-            ),
-            (
-                Told::NeedRange,
-                "Some(Going(Quiet)) Some((Shard(0), Store(Add { key: Bytes { bytes: [2] }, by: 16 })))",
-            ),
-            (
-                Told::Count(0),
-                "Some(Going(Quiet)) Some((Manager(0), Manager(Range { low: 1, high: 16 })))",
-            ),
-            (
-                Told::Ranged,
-                "Some(Going(Quiet)) Some((Manager(0), Manager(Begin { node: NodeId { number: 1 }, seen: Descriptor { base: 0, runs: Items { items: [] } } })))",
-            ),
-            (Told::Began(1), "Some(Ready(Began { tid: 1 })) None"),
-        ],
-    )
+    run(&rt, rt.alloc(), &mut txn, &DRAWS)
 }
 
 #[test]
@@ -202,55 +293,7 @@ fn commits_a_record(rt: &impl Abort, alloc: Global, txn: &mut Txn) -> Result<(),
         asked(alloc, txn)?.as_str(),
         "Some((Shard(0), Store(StoreIf { key: Bytes { bytes: [3, 0, 0, 0, 0, 0, 0, 0, 1] }, stamp: 0, value: Bytes { bytes: [1, 0, 0, 0, 0, 0, 0, 0, 1, 1, 0, 0, 0, 0, 1, 0, 11, 4, 0, 2, 128, 0, 0, 0, 0, 0, 0, 1] } })))"
     );
-    run(
-        rt,
-        alloc,
-        txn,
-        &[
-            (
-                Told::Stored(1),
-                "Some(Going(Tried { tid: 1 })) Some((Shard(0), Store(Load { key: Bytes { bytes: [4, 0, 2, 128, 0, 0, 0, 0, 0, 0, 1] } })))",
-            ),
-            (
-                Told::Cell(3, &CELL),
-                "Some(Going(Quiet)) Some((Shard(0), Store(StoreIf { key: Bytes { bytes: [4, 0, 2, 128, 0, 0, 0, 0, 0, 0, 1] }, stamp: 3, value: Bytes { bytes: [1, 0, 0, 0, 2, 0, 0, 0, 0, 0, 0, 0, 1, 1, 0, 19, 2, 2, 0, 0, 0, 0, 0, 0, 0, 1, 2, 0, 0, 0, 0, 0, 0, 0, 10, 0, 0, 0, 0, 0, 0, 0, 0, 1, 0, 19, 2, 2, 0, 0, 0, 0, 0, 0, 0, 1, 2, 0, 0, 0, 0, 0, 0, 0, 10] } })))",
-            ),
-            (
-                Told::Moved(4),
-                "Some(Going(Quiet)) Some((Shard(0), Store(Load { key: Bytes { bytes: [4, 0, 2, 128, 0, 0, 0, 0, 0, 0, 1] } })))",
-            ),
-            (
-                Told::Cell(4, &CELL),
-                "Some(Going(Quiet)) Some((Shard(0), Store(StoreIf { key: Bytes { bytes: [4, 0, 2, 128, 0, 0, 0, 0, 0, 0, 1] }, stamp: 4, value: Bytes { bytes: [1, 0, 0, 0, 2, 0, 0, 0, 0, 0, 0, 0, 1, 1, 0, 19, 2, 2, 0, 0, 0, 0, 0, 0, 0, 1, 2, 0, 0, 0, 0, 0, 0, 0, 10, 0, 0, 0, 0, 0, 0, 0, 0, 1, 0, 19, 2, 2, 0, 0, 0, 0, 0, 0, 0, 1, 2, 0, 0, 0, 0, 0, 0, 0, 10] } })))",
-            ),
-            (
-                Told::Stored(5),
-                "Some(Going(Quiet)) Some((Shard(0), Store(StoreIf { key: Bytes { bytes: [3, 0, 0, 0, 0, 0, 0, 0, 1] }, stamp: 1, value: Bytes { bytes: [1, 0, 0, 0, 0, 0, 0, 0, 1, 1, 1, 0, 0, 0, 1, 0, 11, 4, 0, 2, 128, 0, 0, 0, 0, 0, 0, 1] } })))",
-            ),
-            (
-                Told::Stored(2),
-                "Some(Going(Quiet)) Some((Shard(0), Store(Load { key: Bytes { bytes: [1] } })))",
-            ),
-            (
-                Told::Cell(1, &NONE_FINISHED),
-                "Some(Going(Quiet)) Some((Shard(0), Store(StoreIf { key: Bytes { bytes: [1] }, stamp: 1, value: Bytes { bytes: [0, 0, 0, 0, 0, 0, 0, 1, 0, 0, 0, 0] } })))",
-            ),
-            (
-                Told::Moved(2),
-                "Some(Going(Quiet)) Some((Shard(0), Store(Load { key: Bytes { bytes: [1] } })))",
-            ),
-            (
-                Told::Cell(2, &NONE_FINISHED),
-                "Some(Going(Quiet)) Some((Shard(0), Store(StoreIf { key: Bytes { bytes: [1] }, stamp: 2, value: Bytes { bytes: [0, 0, 0, 0, 0, 0, 0, 1, 0, 0, 0, 0] } })))",
-            ),
-            (
-                Told::Stored(3),
-                "Some(Going(Committed { tid: 1 })) Some((Manager(0), Manager(End { tid: 1 })))",
-            ),
-            (Told::Ended, "Some(Ended(Answered)) None"),
-            (Told::Ended, "None None"),
-        ],
-    )?;
+    run(rt, alloc, txn, &COMMITS)?;
     assert_eq!(rt; txn.conflict(), None);
     Ok(())
 }
@@ -264,48 +307,11 @@ fn it_undoes_at_a_conflict(rt: HostRuntime) -> Result<(), Fail> {
 fn undoes_at_a_conflict(rt: &impl Abort, alloc: Global, txn: &mut Txn) -> Result<(), Fail> {
     write(rt, alloc, txn)?;
     commit(rt, alloc, txn)?;
-    run(
-        rt,
-        alloc,
-        txn,
-        &[
-            (
-                Told::Stored(1),
-                "Some(Going(Tried { tid: 1 })) Some((Shard(0), Store(Load { key: Bytes { bytes: [4, 0, 2, 128, 0, 0, 0, 0, 0, 0, 1] } })))",
-            ),
-            (
-                Told::Cell(3, &DELETION),
-                "Some(Going(Clashed { tid: 1, rival: 2, at: 0 })) Some((Shard(0), Store(StoreIf { key: Bytes { bytes: [3, 0, 0, 0, 0, 0, 0, 0, 1] }, stamp: 1, value: Bytes { bytes: [1, 0, 0, 0, 0, 0, 0, 0, 1, 1, 2, 0, 0, 0, 1, 0, 11, 4, 0, 2, 128, 0, 0, 0, 0, 0, 0, 1] } })))",
-            ),
-        ],
-    )?;
+    run(rt, alloc, txn, &CLASHES)?;
     assert_eq!(rt; txn.conflict(), Some(2));
-    run(
-        rt,
-        alloc,
-        txn,
-        &[
-            (
-                Told::Stored(2),
-                "Some(Going(Quiet)) Some((Shard(0), Store(Load { key: Bytes { bytes: [1] } })))",
-            ),
-            (
-                Told::Cell(1, &NONE_FINISHED),
-                "Some(Going(Quiet)) Some((Shard(0), Store(StoreIf { key: Bytes { bytes: [1] }, stamp: 1, value: Bytes { bytes: [0, 0, 0, 0, 0, 0, 0, 1, 0, 0, 0, 0] } })))",
-            ),
-            (
-                Told::Stored(2),
-                "Some(Going(Undone { tid: 1 })) Some((Manager(0), Manager(End { tid: 1 })))",
-            ),
-        ],
-    )?;
+    run(rt, alloc, txn, &UNDOES)?;
     assert_eq!(rt; txn.conflict(), Some(2));
-    run(
-        rt,
-        alloc,
-        txn,
-        &[(Told::Ended, "Some(Ended(Answered)) None")],
-    )
+    run(rt, alloc, txn, &ENDS)
 }
 
 #[test]
@@ -317,22 +323,7 @@ fn it_gives_up(rt: HostRuntime) -> Result<(), Fail> {
 fn gives_up(rt: &impl Abort, alloc: Global, txn: &mut Txn) -> Result<(), Fail> {
     assert!(rt; txn.is_ready());
     txn.rollback()?;
-    run(
-        rt,
-        alloc,
-        txn,
-        &[
-            (
-                Told::Cell(1, &NONE_FINISHED),
-                "Some(Going(Quiet)) Some((Shard(0), Store(StoreIf { key: Bytes { bytes: [1] }, stamp: 1, value: Bytes { bytes: [0, 0, 0, 0, 0, 0, 0, 1, 0, 0, 0, 0] } })))",
-            ),
-            (
-                Told::Stored(2),
-                "Some(Going(Undone { tid: 1 })) Some((Manager(0), Manager(End { tid: 1 })))",
-            ),
-            (Told::Ended, "Some(Ended(Answered)) None"),
-        ],
-    )
+    run(rt, alloc, txn, &GIVES_UP)
 }
 
 #[test]
@@ -352,22 +343,7 @@ fn reads_the_shards_one_after_another(
         asked(alloc, txn)?.as_str(),
         "Some((Shard(0), Store(Page { from: Bytes { bytes: [4, 0, 1] }, before: Bytes { bytes: [4, 0, 4] }, limit: 64 })))"
     );
-    run(
-        rt,
-        alloc,
-        txn,
-        &[
-            (
-                Told::Page(&CELL, true),
-                "Some(Going(Quiet)) Some((Shard(0), Store(Page { from: Bytes { bytes: [4, 0, 2, 128, 0, 0, 0, 0, 0, 0, 1, 0] }, before: Bytes { bytes: [4, 0, 4] }, limit: 64 })))",
-            ),
-            (
-                Told::Page(&DELETION, false),
-                "Some(Going(Quiet)) Some((Shard(1), Store(Page { from: Bytes { bytes: [4, 0, 1] }, before: Bytes { bytes: [4, 0, 4] }, limit: 64 })))",
-            ),
-            (Told::Page(&CELL, false), "Some(Ready(Quiet)) None"),
-        ],
-    )?;
+    run(rt, alloc, txn, &READS)?;
     assert!(rt; txn.is_ready());
     let rows = txn.rows();
     let text = format!(in alloc; "{rows:?}")?;

@@ -1,11 +1,10 @@
-//! Forms of the printed text that no script of `tell`'s tests comes to.
+//! Forms of the printed text that no scenario comes to.
 
-use crate::answer::{push_answer, push_ending};
-use crate::value::push_row;
 use std::alloc::Global;
 use std::test::Fail;
 use tl_base::{Bytes, NoMemory, Text};
 use tl_isolation::{Answer, Ending};
+use tl_render::{push_answer, push_ending, push_row};
 use tl_values::{Row, Value};
 
 fn row_of_each_value(alloc: Global) -> Result<Row, NoMemory> {
