@@ -16,8 +16,6 @@ mod query;
 mod rank;
 mod row;
 mod select;
-#[cfg(test)]
-mod tests;
 mod truth;
 mod value;
 

@@ -7,8 +7,6 @@ mod change;
 mod query;
 mod seen;
 mod table;
-#[cfg(test)]
-mod tests;
 
 pub use answer::{copy_answer, is_refusal};
 pub use change::answer_change;

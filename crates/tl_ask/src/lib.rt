@@ -8,8 +8,6 @@ mod law;
 mod layout;
 mod reading;
 mod requests;
-#[cfg(test)]
-mod tests;
 mod txn_id;
 
 pub use asked::Asked;

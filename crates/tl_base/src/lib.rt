@@ -11,8 +11,6 @@ mod memory;
 mod node;
 mod place;
 mod store;
-#[cfg(test)]
-mod tests;
 mod text;
 
 pub use boxed::Boxed;

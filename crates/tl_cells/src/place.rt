@@ -14,18 +14,3 @@ pub fn shard_of(key: &[u8], count: u8) -> u8
     }
     (hash % count as u32) as u8
 }
-
-#[cfg(test)]
-mod tests {
-    use super::*;
-
-    #[test]
-    fn shards_of_keys(rt: HostRuntime) {
-        let record = b"\x04\x00\x02\x80\x00\x00\x00\x00\x00\x00\x01";
-        assert_eq!(rt; shard_of(b"\x01", 4), 1);
-        assert_eq!(rt; shard_of(b"\x02", 4), 2);
-        assert_eq!(rt; shard_of(record, 1), 0);
-        assert_eq!(rt; shard_of(record, 4), 1);
-        assert_eq!(rt; shard_of(record, 16), 9);
-    }
-}

@@ -5,8 +5,6 @@ mod fault;
 mod reading;
 mod sized;
 mod spelled;
-#[cfg(test)]
-mod tests;
 mod writing;
 
 pub use fault::ReadFault;

@@ -3,8 +3,6 @@
 
 mod floors;
 mod law;
-#[cfg(test)]
-mod tests;
 
 pub use floors::Floors;
 pub use law::least_begins_all;

@@ -7,8 +7,6 @@ mod laws;
 mod reading;
 mod run;
 mod runs;
-#[cfg(test)]
-mod tests;
 
 pub use descriptor::Descriptor;
 pub use fault::{DescriptorFault, InsertFault};

@@ -156,38 +156,3 @@ fn at_most(bytes: &[u8], most: usize) -> &[u8]
 {
     &bytes[..bytes.len().min(most)]
 }
-
-#[cfg(test)]
-mod tests {
-    use super::*;
-    use std::test::Fail;
-    use tl_base::Items;
-
-    #[test]
-    fn source_moves_one_byte_and_fails_at_a_listed_call(rt: HostRuntime) -> Result<(), Fail> {
-        let bytes = Bytes::from_slice(rt.alloc(), b"ab")?;
-        let failing = Items::from_slice(rt.alloc(), &[2])?;
-        let mut source = MemorySource::new(bytes, 1, failing);
-        let mut buffer = [0; 4];
-        assert_eq!(rt; source.read(&mut buffer), Ok(1));
-        assert_eq!(rt; buffer[0], b'a');
-        assert_eq!(rt; source.read(&mut buffer), Err(Failed));
-        assert_eq!(rt; source.read(&mut buffer), Ok(1));
-        assert_eq!(rt; buffer[0], b'b');
-        assert_eq!(rt; source.read(&mut buffer), Ok(0));
-        Ok(())
-    }
-
-    #[test]
-    fn sink_fails_at_a_listed_call_and_where_it_is_full(rt: HostRuntime) -> Result<(), Fail> {
-        let failing = Items::from_slice(rt.alloc(), &[1])?;
-        let mut sink = MemorySink::new(rt.alloc(), 3, 2, failing)?;
-        assert_eq!(rt; sink.write(b"abcd"), Err(Failed));
-        assert_eq!(rt; sink.write(b"abcd"), Ok(2));
-        assert_eq!(rt; sink.write(b"cd"), Ok(1));
-        assert_eq!(rt; sink.write(b"d"), Err(Failed));
-        assert_eq!(rt; sink.write(b""), Ok(0));
-        assert_eq!(rt; sink.held(), b"abc".as_slice());
-        Ok(())
-    }
-}

@@ -76,39 +76,3 @@ pub fn read_all<S: Source>(alloc: Global, source: &mut S, most: usize) -> Result
     }
     Err(ReadError::TooLong)
 }
-
-#[cfg(test)]
-mod tests {
-    use super::*;
-    use crate::memory::MemorySource;
-    use std::test::Fail;
-    use tl_base::Items;
-
-    fn source(alloc: Global, most: u32, failing: &[u32]) -> Result<MemorySource, NoMemory>
-        requires { 1 ≤ most }
-    {
-        let bytes = Bytes::from_slice(alloc, b"abc")?;
-        let failing = Items::from_slice(alloc, failing)?;
-        Ok(MemorySource::new(bytes, most, failing))
-    }
-
-    #[test]
-    fn reads_to_the_end_in_any_pieces(rt: HostRuntime) -> Result<(), Fail> {
-        for most in 1..5 {
-            let bytes = read_all(rt.alloc(), &mut source(rt.alloc(), most, &[])?, 3)?;
-            assert_eq!(rt; bytes.as_slice(), b"abc".as_slice());
-        }
-        Ok(())
-    }
-
-    #[test]
-    fn stops_at_a_fault_and_past_the_most(rt: HostRuntime) -> Result<(), Fail> {
-        let mut long = source(rt.alloc(), 2, &[])?;
-        let answer = read_all(rt.alloc(), &mut long, 2).err();
-        assert_eq!(rt; answer, Some(ReadError::TooLong));
-        let mut faulty = source(rt.alloc(), 2, &[2])?;
-        let answer = read_all(rt.alloc(), &mut faulty, 3).err();
-        assert_eq!(rt; answer, Some(ReadError::Fault));
-        Ok(())
-    }
-}

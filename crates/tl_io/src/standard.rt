@@ -101,32 +101,3 @@ impl<W: Write> Sink for OutputSink<W> {
         }
     }
 }
-
-#[cfg(test)]
-mod tests {
-    use super::*;
-    use std::test::Fail;
-
-    #[test]
-    fn reads_what_the_reader_has(rt: HostRuntime) -> Result<(), Fail> {
-        let mut source = InputSource::new(b"ab".as_slice());
-        let mut buffer = [0; 4];
-        assert_eq!(rt; source.read(&mut buffer), Ok(2));
-        assert_eq!(rt; source.read(&mut buffer), Ok(0));
-        let mut input = InputSource::new(rt.reader());
-        assert_eq!(rt; input.read(&mut []), Ok(0));
-        Ok(())
-    }
-
-    #[test]
-    fn a_writer_that_takes_nothing_fails(rt: HostRuntime) -> Result<(), Fail> {
-        let mut room = [0; 1];
-        let mut sink = OutputSink::new(room.as_mut_slice());
-        assert_eq!(rt; sink.write(b"ab"), Ok(1));
-        assert_eq!(rt; sink.write(b"b"), Err(Failed));
-        assert_eq!(rt; sink.write(b""), Ok(0));
-        let mut output = OutputSink::new(std::io::writer(&rt));
-        assert_eq!(rt; output.write(b""), Ok(0));
-        Ok(())
-    }
-}

@@ -66,21 +66,3 @@ impl Sink for SteadySink {
         Ok(piece.len())
     }
 }
-
-#[cfg(test)]
-mod tests {
-    use super::*;
-    use std::test::Fail;
-
-    #[test]
-    fn gives_and_takes_as_much_as_fits(rt: HostRuntime) -> Result<(), Fail> {
-        let mut source = SteadySource::new(Bytes::from_slice(rt.alloc(), b"abc")?);
-        let mut buffer = [0; 2];
-        assert_eq!(rt; source.read(&mut buffer), Ok(2));
-        assert_eq!(rt; buffer.as_slice(), b"ab".as_slice());
-        assert_eq!(rt; source.read(&mut buffer), Ok(1));
-        assert_eq!(rt; source.read(&mut buffer), Ok(0));
-        assert_eq!(rt; SteadySink::new().write(b"abc"), Ok(3));
-        Ok(())
-    }
-}

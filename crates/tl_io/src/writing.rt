@@ -20,24 +20,3 @@ pub fn write_all<K: Sink>(sink: &mut K, bytes: &[u8]) -> Result<(), Failed>
     }
     Ok(())
 }
-
-#[cfg(test)]
-mod tests {
-    use super::*;
-    use crate::memory::MemorySink;
-    use std::test::Fail;
-    use tl_base::Items;
-
-    #[test]
-    fn writes_all_or_a_part_from_the_start(rt: HostRuntime) -> Result<(), Fail> {
-        let never = Items::from_slice(rt.alloc(), &[])?;
-        let mut sink = MemorySink::new(rt.alloc(), 3, 2, never)?;
-        assert_eq!(rt; write_all(&mut sink, b"abc"), Ok(()));
-        assert_eq!(rt; sink.held(), b"abc".as_slice());
-        let third = Items::from_slice(rt.alloc(), &[3])?;
-        let mut sink = MemorySink::new(rt.alloc(), 3, 1, third)?;
-        assert_eq!(rt; write_all(&mut sink, b"abc"), Err(Failed));
-        assert_eq!(rt; sink.held(), b"ab".as_slice());
-        Ok(())
-    }
-}

@@ -6,8 +6,6 @@ mod fault;
 mod keys;
 mod laws;
 mod reading;
-#[cfg(test)]
-mod tests;
 
 pub use entry::{Flag, LogEntry};
 pub use fault::LogFault;

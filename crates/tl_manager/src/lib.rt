@@ -12,8 +12,6 @@ mod manager;
 mod mark;
 mod ranges;
 mod request;
-#[cfg(test)]
-mod tests;
 
 pub use active::Active;
 pub use gone::Gone;

@@ -7,8 +7,6 @@ mod opening;
 mod places;
 mod room;
 mod rows;
-#[cfg(test)]
-mod tests;
 
 pub use law::places_serve_their_logs;
 pub use places::Places;

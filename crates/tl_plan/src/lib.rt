@@ -2,13 +2,9 @@
 #![tactic(auto)]
 
 mod access;
-#[cfg(test)]
-mod cases;
 mod copy;
 mod laws;
 mod plan;
-#[cfg(test)]
-mod plan_cases;
 mod planned;
 mod range;
 mod tested;

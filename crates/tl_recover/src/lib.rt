@@ -12,8 +12,6 @@ mod lost_log;
 mod phase;
 mod recover;
 mod stripping;
-#[cfg(test)]
-mod tests;
 
 pub use law::{duties_go_on, recoveries_follow_the_node};
 pub use phase::{Lost, Phase};

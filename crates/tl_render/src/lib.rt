@@ -6,8 +6,8 @@ mod run;
 mod session;
 mod stored;
 mod table;
-#[cfg(test)]
-mod tests;
 mod value;
 
+pub use answer::{push_answer, push_ending};
 pub use run::render;
+pub use value::push_row;

@@ -10,8 +10,6 @@ mod limits;
 mod reading;
 mod record;
 mod spelling;
-#[cfg(test)]
-mod tests;
 
 pub use access::Access;
 pub use catalog::{Catalog, Column, Index, OpeningRow, Setup, Table};

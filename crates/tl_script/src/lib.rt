@@ -18,6 +18,3 @@ mod words;
 pub use fault::{ScriptError, ScriptKind};
 pub use number::number_within;
 pub use script::read_script;
-
-#[cfg(test)]
-mod tests;

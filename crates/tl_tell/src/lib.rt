@@ -7,8 +7,6 @@ mod ended;
 mod input;
 mod law;
 mod run;
-#[cfg(test)]
-mod tests;
 
 pub use ended::{Ended, Reason};
 pub use run::{run_tell, run_turns};

@@ -11,8 +11,6 @@ mod phase;
 mod prepare;
 mod reading;
 mod short;
-#[cfg(test)]
-mod tests;
 mod txn;
 mod undo;
 

@@ -8,8 +8,6 @@ mod key;
 mod laws;
 mod reading;
 mod row;
-#[cfg(test)]
-mod tests;
 mod value;
 
 pub use comparison::{compare, order};

@@ -5,8 +5,6 @@ mod entry;
 mod fault;
 mod laws;
 mod reading;
-#[cfg(test)]
-mod tests;
 mod version;
 mod versions;
 

@@ -10,8 +10,6 @@ mod room;
 mod slot;
 mod tells;
 mod terms;
-#[cfg(test)]
-mod tests;
 mod world;
 
 pub use world::{Turned, World};

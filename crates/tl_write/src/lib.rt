@@ -10,8 +10,6 @@ mod place;
 mod places;
 mod row;
 mod statement;
-#[cfg(test)]
-mod tests;
 mod write;
 
 pub use buffer::Buffer;

@@ -1,0 +1,104 @@
+use crate::access::{ONE, ONE_TWO, all, pair};
+use crate::fixtures::{rows, test};
+use std::alloc::Global;
+use std::test::Fail;
+use tl_algebra::{Condition, Edit, Expression, Join, Output, Query};
+use tl_base::{Bytes, Items, NoMemory, Text};
+use tl_isolation::Bound;
+use tl_plan::{copy_bound, finish, make_plan};
+use tl_schema::{Access, Catalog};
+use tl_values::{Comparison, Row, Value};
+
+// Tables whose key is both columns, and the first one.
+fn catalog(alloc: Global) -> Result<Catalog, NoMemory> {
+    let mut tables = Items::new(alloc);
+    tables.push(pair(alloc, &[0, 1])?)?;
+    tables.push(pair(alloc, &[0])?)?;
+    Ok(Catalog { tables })
+}
+
+// The second column of both tables.
+fn select(alloc: Global, filter: Option<Condition>) -> Result<Bound, NoMemory> {
+    let mut from = Items::new(alloc);
+    from.push(Join { table: 0, on: None })?;
+    from.push(Join { table: 1, on: None })?;
+    let mut outputs = Items::new(alloc);
+    outputs.push(Output::Expression(Expression::Place(3)))?;
+    Ok(Bound::Select {
+        query: Query {
+            from,
+            filter,
+            group: Items::new(alloc),
+            outputs,
+            sort: Items::new(alloc),
+            limit: None,
+        },
+    })
+}
+
+// By the key.
+fn update(alloc: Global) -> Result<Bound, NoMemory> {
+    let both = [(0, Comparison::Equal, 1), (1, Comparison::Equal, 2)];
+    Ok(Bound::Change {
+        edit: Edit::Update {
+            table: 0,
+            sets: Items::new(alloc),
+            filter: all(alloc, &both)?,
+        },
+    })
+}
+
+// Three rows: one has a NULL in its key, and the key bytes of another are 256.
+fn insert(alloc: Global) -> Result<Bound, Fail> {
+    let mut rows = rows(alloc, &["NULL 1", "1 NULL"])?;
+    let mut long = Row::new(alloc);
+    let letters = String::from_utf8(vec![in alloc; b'x'; 253]?)?;
+    long.push(Value::Text(Text::from_string(letters)))?;
+    rows.push(long)?;
+    Ok(Bound::Change {
+        edit: Edit::Insert { table: 1, rows },
+    })
+}
+
+fn push_key(keys: &mut Bytes, access: &Access) -> Result<(), NoMemory> {
+    match access {
+        Access::Point { key } => keys.extend_from_slice(key.as_slice()),
+        _ => Ok(()),
+    }
+}
+
+// Whether the statement reads so many records and ranges, the records of these keys, one behind the other, among them.
+fn reads(alloc: Global, bound: &Bound, count: usize, keys: &[u8]) -> Result<bool, NoMemory> {
+    let plan = make_plan(alloc, bound, &catalog(alloc)?)?;
+    let mut found = Bytes::new(alloc);
+    for access in &plan.accesses {
+        push_key(&mut found, access)?;
+    }
+    Ok(plan.accesses.len() == count && found.as_slice() == keys)
+}
+
+#[test]
+fn a_statement_reads_what_it_names(rt: HostRuntime) -> Result<(), Fail> {
+    let alloc = rt.alloc();
+    let second = select(alloc, Some(test(2, Comparison::Equal, 1)))?;
+    assert!(rt; reads(alloc, &Bound::Begin, 0, &[])?);
+    assert!(rt; reads(alloc, &second, 2, &ONE)?);
+    assert!(rt; reads(alloc, &insert(alloc)?, 1, &ONE)?);
+    assert!(rt; reads(alloc, &update(alloc)?, 1, &ONE_TWO)?);
+    Ok(())
+}
+
+// How many rows the statement has over tables of one row.
+fn printed(alloc: Global, bound: &Bound) -> Result<usize, Fail> {
+    let plan = make_plan(alloc, &copy_bound(alloc, bound)?, &catalog(alloc)?)?;
+    let tables = [rows(alloc, &["1 2"])?, rows(alloc, &["1 2"])?];
+    Ok(finish(alloc, &plan, &tables)?.len())
+}
+
+#[test]
+fn only_a_select_has_rows(rt: HostRuntime) -> Result<(), Fail> {
+    let alloc = rt.alloc();
+    assert_eq!(rt; printed(alloc, &select(alloc, None)?)?, 1);
+    assert_eq!(rt; printed(alloc, &Bound::Begin)?, 0);
+    Ok(())
+}
