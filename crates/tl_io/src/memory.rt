@@ -1,4 +1,4 @@
-ghost use Rattle.std.specs.Prelude.{◌≡◌, ◌-◌, ◌<◌, ◌≤◌, ◌⊎◌, ◌↔◌, [], ◌++◌, min, length, take, IsTrue, IsErr, is_err, IfOk, OnErr};
+ghost use Rattle.std.specs.Prelude.{◌≡◌, ◌+◌, ◌-◌, ◌<◌, ◌≤◌, ◌⊎◌, ◌↔◌, [], ◌++◌, min, length, take, IsTrue, IsErr, is_err, IfOk, OnErr};
 ghost use Rattle.std.specs.Io.{ReadsAtMost};
 ghost use Rattle.tl_io.specs.Faults.{Rose, next};
 ghost use Rattle.tl_io.specs.Memory.{none_made, is_listed, after_call};
@@ -52,6 +52,8 @@ impl Source for MemorySource {
 
     ghost faults = { λ source. source.calls.failed };
 
+    ghost calls = { λ source. source.calls.made };
+
     fn read(&mut self, buffer: &mut [u8]) -> Result<usize, Failed>
         ensures within { ReadsAtMost result buffer.new }
         ensures bytes { IfOk result (λ count. self.old.left ≡ take count buffer.new ++ self.new.left) }
@@ -59,6 +61,7 @@ impl Source for MemorySource {
         ensures kept { OnErr result (self.new.left ≡ self.old.left) }
         ensures counted { OnErr result (Rose self.old.calls.failed self.new.calls.failed) }
         ensures never_falls { self.old.calls.failed ≤ self.new.calls.failed }
+        ensures one_call { self.new.calls.made ≤ self.old.calls.made + 1 }
 
         ensures listed { IsErr result ↔ IsTrue (is_listed self.old.calls.failing (next self.old.calls.made)) }
         ensures count { IfOk result (λ count.

@@ -45,7 +45,7 @@ const PIECE: usize = 4096;
 /// The bytes of a source, read to the end of the input.
 ///
 /// `Fault` comes where a read failed, and `TooLong` once `most + 1` bytes were read without a fault. Whatever comes,
-/// what was read is gone from the source, and no more than `most + 1` bytes are read.
+/// what was read is gone from the source, and no more than `most + 1` bytes are read, by no more calls.
 pub fn read_all<S: Source>(alloc: Global, source: &mut S, most: usize) -> Result<Bytes, ReadError>
     requires { most < 2 ^ 32 }
     ensures within { IfOk result (λ bytes. length bytes ≤ most) }
@@ -63,6 +63,7 @@ pub fn read_all<S: Source>(alloc: Global, source: &mut S, most: usize) -> Result
 
     ensures front { LosesUpTo (most + 1) (S.left source.old) (S.left source.new) }
     ensures never_falls { S.faults source.old ≤ S.faults source.new }
+    ensures calls { S.calls source.new ≤ S.calls source.old + most + 1 }
 {
     let mut bytes = Bytes::new(alloc);
     let mut buffer = [0; PIECE];

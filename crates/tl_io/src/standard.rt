@@ -7,7 +7,7 @@ use crate::source::Source;
 use std::io::{Read, Write};
 use std::marker::Model;
 
-/// Standard input, or another reader, as a source. It tells no bytes.
+/// Standard input, or another reader, as a source. It tells no bytes and counts no calls.
 #[derive(Drop)]
 pub struct InputSource<R> {
     reader: R,
@@ -45,6 +45,8 @@ impl<R: Read> Source for InputSource<R> {
     ghost left = { λ _. None };
 
     ghost faults = { λ faults. faults };
+
+    ghost calls = { λ _. 0 };
 
     fn read(&mut self, buffer: &mut [u8]) -> Result<usize, Failed> {
         match self.reader.read(buffer) {

@@ -38,6 +38,8 @@ impl Source for SteadySource {
 
     ghost faults = { λ _. 0 };
 
+    ghost calls = { λ _. 0 };
+
     fn read(&mut self, buffer: &mut [u8]) -> Result<usize, Failed> {
         Ok(self.unread.take_front(buffer.len(), buffer))
     }

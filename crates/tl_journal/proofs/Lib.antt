@@ -4,6 +4,8 @@ pub mod Asking
 pub mod Attempts
 pub mod Begins
 pub mod ChangeSizes
+pub mod Claims
+pub mod ClaimsMade
 pub mod CutShort
 pub mod CutSpoken
 pub mod Dispatch
@@ -29,6 +31,7 @@ pub mod ManagerPremises
 pub mod ManagerServes
 pub mod Managers
 pub mod Meets
+pub mod NoneLeft
 pub mod Opens
 pub mod Owed
 pub mod OwnHeld
@@ -41,6 +44,8 @@ pub mod Records
 pub mod Recovered
 pub mod RecoveredServed
 pub mod Recoveries
+pub mod RecoveriesWhole
+pub mod RecoverySays
 pub mod Requests
 pub mod RowSizes
 pub mod Seen

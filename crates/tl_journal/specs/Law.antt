@@ -126,9 +126,13 @@ StoreStands = (script : Script) (settings : Settings) (past rest : List Event) �
 
 -- each transaction that a vanished node left active has exactly one who mends it: a death notice that names the node, or a
 -- running node that is to recover it
+abbrev pub IsMended : Script → Settings → List Event → Type 0
+IsMended script settings past =
+    (w : World) × Holds script settings past w × ((d : ℕ) (x : Active) → w.gone d ≡ true → w.active d ≡ Some x → HasOneMender w d)
+
+-- so it is after each event
 abbrev pub EachIsMended : Type 0
-EachIsMended = (script : Script) (settings : Settings) (past rest : List Event) → IsRun script settings (past ++ rest)
-    → (w : World) × Holds script settings past w × ((d : ℕ) (x : Active) → w.gone d ≡ true → w.active d ≡ Some x → HasOneMender w d)
+EachIsMended = (script : Script) (settings : Settings) (past rest : List Event) → IsRun script settings (past ++ rest) → IsMended script settings past
 
 -- of these commits the set has the first ones and no others
 abbrev pub AreFirst : TidSet → List Commit → Type 0
@@ -136,21 +140,30 @@ AreFirst set commits =
     let n = count_in set commits in
     AllByRecursion (λ (c : Commit). has set c.tid ≡ true) (take n commits) × AllByRecursion (λ (c : Commit). has set c.tid ≡ false) (drop n commits)
 
--- of the commits so far the snapshot of a transaction that begins has the first ones and no others
-abbrev pub FirstCommits : Type 0
-FirstCommits = (script : Script) (settings : Settings) (past : List Event) (e : Event) (rest : List Event) → IsRun script settings (past ++ e ∷ rest)
-    → (tid : ℕ) (snapshot floor : TidSet) → e.reply ≡ reply.Manager (manager.Began tid snapshot floor)
+-- of the commits so far the snapshot of a transaction that begins at this event has the first ones and no others
+abbrev pub BeginsWithFirst : Script → Settings → List Event → Event → Type 0
+BeginsWithFirst script settings past e =
+    (tid : ℕ) (snapshot floor : TidSet) → e.reply ≡ reply.Manager (manager.Began tid snapshot floor)
     → AreFirst snapshot (state_after (setup_of script settings) (entries_told past)).commits
 
--- no place replies anything strange, where fewer than 2^32 rows open the tables: each reply is one that a place may give for the
--- request, each cell is a cell for its key, the node that asked doesn't stop at it, whatever it answers, and it holds no
--- transaction number where none can stand
-abbrev pub NothingStrange : Type 0
-NothingStrange = (script : Script) (settings : Settings) (past : List Event) (e : Event) (rest : List Event) → IsRun script settings (past ++ e ∷ rest)
-    → length script.rows < 2 ^ 32 → is_post e.request ≡ false
+-- so has that of each
+abbrev pub FirstCommits : Type 0
+FirstCommits = (script : Script) (settings : Settings) (past : List Event) (e : Event) (rest : List Event) → IsRun script settings (past ++ e ∷ rest)
+    → BeginsWithFirst script settings past e
+
+-- the reply of this event isn't strange: it is one that a place may give for the request, each cell is a cell for its key, the
+-- node that asked doesn't stop at it, whatever it answers, and it holds no transaction number where none can stand
+abbrev pub IsNotStrange : Script → Settings → List Event → Event → Type 0
+IsNotStrange script settings past e =
+    is_post e.request ≡ false
     → (session : Session) → session_of script e.node ≡ Some session
     → (ask : Ask) → asks settings script.catalog (node_after settings script past session) ≡ Some ask
     → is_strange settings script.catalog (node_after settings script past session) ask e.reply ≡ false
+
+-- no place replies anything strange, where fewer than 2^32 rows open the tables
+abbrev pub NothingStrange : Type 0
+NothingStrange = (script : Script) (settings : Settings) (past : List Event) (e : Event) (rest : List Event) → IsRun script settings (past ++ e ∷ rest)
+    → length script.rows < 2 ^ 32 → IsNotStrange script settings past e
 
 -- what a transaction that takes statements has written
 abbrev pub own_in : Doing → List Write

@@ -14,5 +14,6 @@ pub mod Run
 pub mod ForKey
 pub mod Strange
 pub mod Law
+pub mod Recovered
 pub mod Outcome
 pub mod Promises

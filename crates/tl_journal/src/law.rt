@@ -1,4 +1,5 @@
 ghost use Rattle.tl_journal.specs.Law.{EachIsMended, FirstCommits, NothingStrange, OneHistory, OwnRowsStandUnderKeys, SpeaksScript, SpeaksWhole, StoreStands};
+ghost use Rattle.tl_journal.specs.Recovered.{RecoveriesAreWhole};
 ghost use Rattle.tl_journal.specs.Promises.{AnswersAll, NeverConflicts};
 ghost use Rattle.tl_journal.specs.Strange.{HeardAsSaid, StopsAlike, StopsAtStrange};
 
@@ -15,6 +16,7 @@ pub fn every_journal_is_one_history()
     ensures first { FirstCommits }
     ensures heeded { NothingStrange }
     ensures own { OwnRowsStandUnderKeys }
+    ensures recovered { RecoveriesAreWhole }
 {}
 
 /// What a run that has come to its end promises besides being one history.

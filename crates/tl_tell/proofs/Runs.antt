@@ -4,7 +4,8 @@ use Rattle.tl_base.specs.declared.place.Settings.{Settings}
 use Rattle.tl_isolation.specs.declared.script.Script.{Script}
 use Rattle.tl_journal.specs.declared.event.Event.{Event}
 use Rattle.tl_journal.specs.Binding.{IsBound}
-use Rattle.tl_journal.specs.Law.{IsRun, OneHistory, SpeaksScript, SpeaksWhole, StoreStands}
+use Rattle.tl_journal.specs.Law.{EachIsMended, FirstCommits, IsRun, NothingStrange, OneHistory, SpeaksScript, SpeaksWhole, StoreStands}
+use Rattle.tl_journal.specs.Recovered.{RecoveriesAreWhole}
 use Rattle.tl_journal.specs.Promises.{AnswersAll, NeverConflicts}
 use Rattle.tl_journal.specs.Outcome.{HasRun}
 use Rattle.tl_tell.specs.Promise.{RunsAreOneHistory, Stood}
@@ -18,10 +19,12 @@ stood : StoreStands → (script : Script) (settings : Settings) (events past res
     → Stood script settings past
 stood stands script settings events past rest run is = stands script settings past rest (subst (IsRun script settings) is run)
 
-pub one_history : OneHistory → SpeaksScript → SpeaksWhole → StoreStands → AnswersAll → NeverConflicts → RunsAreOneHistory
-one_history history speaks whole stands answers alone script settings events bound shards few_shards managers few_managers run =
+pub one_history : OneHistory → SpeaksScript → SpeaksWhole → StoreStands → EachIsMended → FirstCommits → RecoveriesAreWhole → NothingStrange → AnswersAll
+    → NeverConflicts → RunsAreOneHistory
+one_history history speaks whole stands mended first recovered heeded answers alone script settings events bound few shards few_shards managers few_managers run =
     let is : IsRun script settings events = is_run script settings events bound shards few_shards managers few_managers run in
     record {
+      bound = bound;
       run = run;
       history = history script settings events is;
       speaks = speaks script settings events is;
@@ -29,4 +32,8 @@ one_history history speaks whole stands answers alone script settings events bou
       answers = answers script settings events is run;
       alone = alone script settings events is;
       stands = λ past rest. stood stands script settings events past rest is;
+      mended = λ past rest e. mended script settings past rest (subst (IsRun script settings) e is);
+      first = λ past event rest e. first script settings past event rest (subst (IsRun script settings) e is);
+      recovered = λ past event rest e. recovered script settings past event rest (subst (IsRun script settings) e is);
+      heeded = λ past event rest e. heeded script settings past event rest (subst (IsRun script settings) e is) few;
     }

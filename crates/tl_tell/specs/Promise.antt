@@ -1,5 +1,5 @@
 -- What a call of the program promises, for each way in which it can end.
-use Rattle.std.specs.Prelude.{◌≡◌, ◌⊎◌, ℕ, ◌+◌, ◌<◌, ◌≤◌, List, [], ◌++◌, Option, Contains, IfSome, IsOk, length}
+use Rattle.std.specs.Prelude.{◌≡◌, ◌⊎◌, ℕ, ◌+◌, ◌<◌, ◌≤◌, ◌^◌, List, [], ◌∷◌, ◌++◌, Option, Contains, IfSome, IsOk, length}
 use Rattle.std.specs.declared.option.Option.TheVariants.{Some, None}
 use Rattle.std.specs.declared.result.Result.TheVariants.{Ok, Err}
 use Rattle.std.specs.Option.{IsSomeAnd}
@@ -20,7 +20,8 @@ use Rattle.tl_journal.specs.declared.event.Event.{Event}
 use Rattle.tl_journal.specs.declared.event.Journal.{Journal}
 use Rattle.tl_journal.specs.Journal.{entries_told, session_of}
 use Rattle.tl_journal.specs.Binding.{IsBound}
-use Rattle.tl_journal.specs.Law.{Holds}
+use Rattle.tl_journal.specs.Law.{BeginsWithFirst, Holds, IsMended, IsNotStrange}
+use Rattle.tl_journal.specs.Recovered.{RecoversWhole}
 use Rattle.tl_journal.specs.Schedule.{vanish_of}
 use Rattle.tl_script.specs.declared.fault.ScriptKind.{ScriptKind}
 use Rattle.tl_script.specs.Script.{script_of}
@@ -57,6 +58,8 @@ Stood script settings past =
 -- the journal is one of a run of the script; its entries are one history, which speaks the script, each session to its last
 -- statement or to the end of its node
 pub record IsOneHistory (script : Script) (settings : Settings) (events : List Event) : Type 0 where
+  -- the script is such as the reader lets through
+  pub bound : IsBound script settings
   pub run : HasRun script settings events
   pub history : IsHistory (setup_of script settings) (entries_told events)
   pub speaks : Along (SpeaksAt script settings) [] (entries_told events)
@@ -69,11 +72,20 @@ pub record IsOneHistory (script : Script) (settings : Settings) (events : List E
   pub alone : length script.sessions ≤ 1 → (node statement rival : ℕ) → Contains (entries_told events) (entry.Answered node statement (answer.Conflict rival)) → ⊥
   -- at each moment the store stands for the tables
   pub stands : (past rest : List Event) → events ≡ past ++ rest → Stood script settings past
+  -- and what a vanished node left has exactly one who is to mend it
+  pub mended : (past rest : List Event) → events ≡ past ++ rest → IsMended script settings past
+  -- at each event: a transaction that begins sees exactly the first of the commits so far,
+  pub first : (past : List Event) (e : Event) (rest : List Event) → events ≡ past ++ e ∷ rest → BeginsWithFirst script settings past e
+  -- RECOVER is answered Recovered only once nothing is left of all the nodes that it was given,
+  pub recovered : (past : List Event) (e : Event) (rest : List Event) → events ≡ past ++ e ∷ rest → RecoversWhole script settings past e
+  -- and no place replies anything strange
+  pub heeded : (past : List Event) (e : Event) (rest : List Event) → events ≡ past ++ e ∷ rest → IsNotStrange script settings past e
 
 -- so it is of each run of a script that can be run
 abbrev pub RunsAreOneHistory : Type 0
-RunsAreOneHistory = (script : Script) (settings : Settings) (events : List Event) → IsBound script settings → 1 ≤ settings.shards → settings.shards ≤ 16 → 1 ≤ settings.managers → settings.managers ≤ 4
-    → HasRun script settings events → IsOneHistory script settings events
+RunsAreOneHistory = (script : Script) (settings : Settings) (events : List Event) → IsBound script settings → length script.rows < 2 ^ 32
+    → 1 ≤ settings.shards → settings.shards ≤ 16 → 1 ≤ settings.managers → settings.managers ≤ 4 → HasRun script settings events
+    → IsOneHistory script settings events
 
 -- the words give the settings, the input is the script, and the journal is that of its run
 pub record Ran (words : List (List ℕ)) (before after : Ends) (journal : Journal) : Type 0 where
@@ -89,6 +101,14 @@ pub record Ran (words : List (List ℕ)) (before after : Ends) (journal : Journa
 pub record IsSilent (before after : Ends) (journal : Journal) : Type 0 where
   pub unwritten : after.held ≡ before.held
   pub empty : journal.events ≡ []
+
+-- what a call that ended for this reason left as it was, as a whole: the output unless a run came to its end, and the input too
+-- where a word was refused
+abbrev pub Leaves : {S K : Type 0} → Reason → S → S → K → K → Type 0
+Leaves (reason.Words place) source source' sink sink' = (source' ≡ source) × (sink' ≡ sink)
+Leaves reason.Done source source' sink sink' = Unit {0}
+Leaves reason.WriteFault source source' sink sink' = Unit {0}
+Leaves why source source' sink sink' = sink' ≡ sink
 
 -- what the run prints
 abbrev pub text_of : Script → Settings → Journal → List ℕ

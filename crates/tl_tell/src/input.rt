@@ -1,6 +1,8 @@
-ghost use Rattle.std.specs.Prelude.{◌≡◌, ◌≤◌, IfOk, IfErr};
+ghost use Rattle.std.specs.Prelude.{◌≡◌, ◌+◌, ◌≤◌, IfOk, IfErr};
 ghost use Rattle.tl_io.specs.Faults.{Rose};
+ghost use Rattle.tl_io.specs.Told.{LosesUpTo};
 ghost use Rattle.tl_tell.specs.Input.{IsInput, Refuses, reason_of_read, reason_of_script};
+ghost use Rattle.tl_tell.specs.Promise.{most_bytes};
 
 use crate::ended::Reason;
 use std::alloc::Global;
@@ -35,6 +37,8 @@ pub fn read_input<S: Source>(alloc: Global, source: &mut S) -> Result<Script, Re
     ensures input { IfOk result (λ script. IsInput (S.left source.old) (S.left source.new) script) }
     ensures refused { IfErr result (Refuses (S.left source.old) (S.left source.new) (S.faults source.old) (S.faults source.new)) }
     ensures never_falls { S.faults source.old ≤ S.faults source.new }
+    ensures bytes { LosesUpTo (most_bytes + 1) (S.left source.old) (S.left source.new) }
+    ensures calls { S.calls source.new ≤ S.calls source.old + most_bytes + 1 }
 {
     let bytes = match read_all(alloc, source, MOST_BYTES) {
         Ok(bytes) => bytes,

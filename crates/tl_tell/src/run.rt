@@ -1,8 +1,9 @@
 //! The top call.
 
-ghost use Rattle.std.specs.Prelude.{◌≡◌, ◌⊎◌, ◌≤◌, ◌<◌, ◌^◌, IfOk, false, length};
+ghost use Rattle.std.specs.Prelude.{◌≡◌, ◌⊎◌, ◌+◌, ◌≤◌, ◌<◌, ◌^◌, IfOk, false, length};
+ghost use Rattle.tl_io.specs.Told.{LosesUpTo};
 ghost use Rattle.tl_journal.specs.Binding.{IsBound};
-ghost use Rattle.tl_tell.specs.Promise.{Ends, IsFine, IsOneHistory, Keeps, text_of};
+ghost use Rattle.tl_tell.specs.Promise.{Ends, IsFine, IsOneHistory, Keeps, Leaves, most_bytes, text_of};
 ghost use Rattle.tl_tell.specs.Status.{status_of};
 
 use crate::command::read_words;
@@ -41,7 +42,7 @@ fn play(alloc: Global, script: &Script, settings: &Settings) -> Result<Played, N
     Ok(Played { journal, text })
 }
 
-/// Runs the program by turns, with `keeps` alone.
+/// Runs the program by turns, with all clauses but `runs`.
 fn run_kept<S: Source, K: Sink>(
     alloc: Global,
     words: &[Text],
@@ -50,6 +51,9 @@ fn run_kept<S: Source, K: Sink>(
 ) -> Ended
     ensures status { result.status ≡ status_of result.reason }
     ensures keeps { Keeps words.now (record { left = S.left source.old; read_faults = S.faults source.old; held = K.held sink.old; write_faults = K.faults sink.old }) (record { left = S.left source.new; read_faults = S.faults source.new; held = K.held sink.new; write_faults = K.faults sink.new }) result.reason result.journal }
+    ensures leaves { Leaves result.reason source.old source.new sink.old sink.new }
+    ensures bytes { LosesUpTo (most_bytes + 1) (S.left source.old) (S.left source.new) }
+    ensures calls { S.calls source.new ≤ S.calls source.old + most_bytes + 1 }
 {
     let settings = match read_words(words) {
         Ok(settings) => settings,
@@ -86,6 +90,13 @@ pub fn run_turns<S: Source, K: Sink>(
 
     // Words of the command line and a told script without fault are run to the end, unless memory runs out.
     ensures runs { IsFine words.now (record { left = S.left source.old; read_faults = S.faults source.old; held = K.held sink.old; write_faults = K.faults sink.old }) (record { left = S.left source.new; read_faults = S.faults source.new; held = K.held sink.new; write_faults = K.faults sink.new }) → (result.status ≡ 0) ⊎ (result.status ≡ 5) }
+
+    // What isn't touched, for each reason.
+    ensures leaves { Leaves result.reason source.old source.new sink.old sink.new }
+
+    // How much is read at most, whatever the reason: bytes that the source tells, and calls that it counts.
+    ensures bytes { LosesUpTo (most_bytes + 1) (S.left source.old) (S.left source.new) }
+    ensures calls { S.calls source.new ≤ S.calls source.old + most_bytes + 1 }
 {
     run_kept(alloc, words, source, sink)
 }
@@ -106,6 +117,13 @@ pub fn run_tell<S: Source, K: Sink, G: Gate>(
 
     // Words of the command line and a told script without fault are run to the end, unless memory runs out.
     ensures runs { IsFine words.now (record { left = S.left source.old; read_faults = S.faults source.old; held = K.held sink.old; write_faults = K.faults sink.old }) (record { left = S.left source.new; read_faults = S.faults source.new; held = K.held sink.new; write_faults = K.faults sink.new }) → (result.status ≡ 0) ⊎ (result.status ≡ 5) }
+
+    // What isn't touched, for each reason.
+    ensures leaves { Leaves result.reason source.old source.new sink.old sink.new }
+
+    // How much is read at most, whatever the reason: bytes that the source tells, and calls that it counts.
+    ensures bytes { LosesUpTo (most_bytes + 1) (S.left source.old) (S.left source.new) }
+    ensures calls { S.calls source.new ≤ S.calls source.old + most_bytes + 1 }
 {
     run_turns(alloc, words, source, sink)
 }

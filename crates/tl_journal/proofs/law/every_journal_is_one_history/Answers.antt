@@ -8,6 +8,7 @@ use Rattle.tl_journal.specs.Law.{IsRun}
 use Rattle.tl_journal.proofs.FirstCommits.{first_commits}
 use Rattle.tl_journal.proofs.Journals.{holds_at, spoken_at, spoken_whole, stood_at}
 use Rattle.tl_journal.proofs.OwnKeyed.{own_keyed}
+use Rattle.tl_journal.proofs.RecoveriesWhole.{recoveries_are_whole}
 use Rattle.tl_journal.proofs.StrangeReplies.{nothing_strange}
 use Rattle.tl_journal.proofs.law.every_journal_is_one_history.Goals as goal
 
@@ -58,3 +59,7 @@ returns-clause-heeded c script settings past e rest run short request session is
 -- src/law.rt:5:1
 pub returns-clause-own : goal.returns-clause-own
 returns-clause-own c script settings past rest run n session h runs = own_keyed script settings past rest run n session h runs
+
+-- src/law.rt:5:1
+pub returns-clause-recovered : goal.returns-clause-recovered
+returns-clause-recovered c script settings past e rest run = recoveries_are_whole script settings past e rest run

@@ -3,8 +3,8 @@ use Rattle.tl_tell.proofs.run.play.Goals as goal
 
 pub returns-clause-history : goal.returns-clause-history
 returns-clause-history c =
-    c.every_run_is_one_history.ensures c.args.script.now c.args.settings.now c.in_ok-journal.journal.events c.requires.bound c.requires.least_shards
-    c.requires.greatest_shards c.requires.least_managers c.requires.greatest_managers c.in_ok-journal.ensures
+    c.every_run_is_one_history.ensures c.args.script.now c.args.settings.now c.in_ok-journal.journal.events c.requires.bound c.requires.few
+    c.requires.least_shards c.requires.greatest_shards c.requires.least_managers c.requires.greatest_managers c.in_ok-journal.ensures
 
 pub returns-clause-text : goal.returns-clause-text
 returns-clause-text c =
