@@ -17,6 +17,7 @@ pub mod Fits
 pub mod Goings
 pub mod Gone
 pub mod Heeded
+pub mod InOrder
 pub mod Insides
 pub mod Journals
 pub mod KeyOrder
