@@ -16,6 +16,7 @@ pub mod FirstCommits
 pub mod Fits
 pub mod Goings
 pub mod Gone
+pub mod Grows
 pub mod Heeded
 pub mod InOrder
 pub mod Insides
