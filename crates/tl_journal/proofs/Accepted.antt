@@ -69,8 +69,10 @@ use Rattle.tl_manager.specs.Serves.{ServesAll as ManagerServes}
 use Rattle.tl_journal.specs.Binding.{IsBound, IsKeyed, StatementFits}
 use Rattle.tl_journal.specs.Law.{IsRun}
 use Rattle.tl_journal.specs.Run.{EndsAt, IsJournal}
-use Rattle.tl_journal.specs.Schedule.{InTurn, is_refusal}
+use Rattle.tl_journal.specs.Schedule.{InTurn, is_refusal, was_cut}
+use Rattle.tl_journal.specs.Strange.{is_stopped}
 use Rattle.tl_journal.specs.Journal.{IsCall, IsEvent, manager_log, shard_log, after_event, answer_said, entries_told, has_vanished, is_post, node_after, posts, session_of, takes_reply}
+use Rattle.tl_journal.proofs.InOrder.{IsNext, IsWhole, along_first, along_second, in_turn_whole}
 use Rattle.tl_journal.proofs.Logs.{node_more, vanished_more}
 use Rattle.tl_journal.proofs.Examples.{by_default, catalog_t, cell_is, insert_one, key, one_row, query_one, records_so, select_one, table_t, told_one, selected_one, session_one, start_one, upto, version, waits, inserted_one, begun_one, selecting_one, reads_by, select_txn, inserts_one, selects_one}
 
@@ -101,7 +103,7 @@ module _ (settings : Settings) (script : Script) (n : ℕ) where
   TurnsOk past node [] = Unit {0}
   TurnsOk past node (t ∷ ts) =
       TurnOk past node t
-      × ((to : Node) × (takes settings script.catalog node t.hears (said_at t) ≡ to) × ((n == to.number) ≡ true) × TurnsOk (past ++ event_of t ∷ []) to ts)
+      × ((to : Node) × (takes settings script.catalog node t.hears (said_at t) ≡ to) × ((n == to.number) ≡ true) × (is_stopped to.doing ≡ false) × TurnsOk (past ++ event_of t ∷ []) to ts)
 
   pub after_turn : (past : List Event) (node : Node) (t : Turn) → (n == node.number) ≡ true → TurnOk past node t
       → after_event settings script (event_of t) node ≡ takes settings script.catalog node t.hears (said_at t)
@@ -141,15 +143,21 @@ module _ (settings : Settings) (script : Script) (n : ℕ) where
           told = ok.tells ∙ (λ i. says_at settings script.catalog (state_after (setup_of script settings) (entries_told past)).commits (sym same i) (sym ok.hears_so i) (said_at t));
         })
 
+    -- the node that it leads to wants no memory
+    pub whole_is : (past : List Event) (t : Turn) (to : Node) → node_after settings script (past ++ event_of t ∷ []) session ≡ to → is_stopped to.doing ≡ false
+        → was_cut script settings (past ++ event_of t ∷ []) n ≡ false
+    whole_is past t to same goes = rw is_session (ap (λ (x : Node). is_stopped x.doing) same ∙ goes)
+
     pub accepted : (past : List Event) (node : Node) (turns : List Turn) → node_after settings script past session ≡ node → (n == node.number) ≡ true
-        → has_vanished past n ≡ false → TurnsOk past node turns → Along (IsEvent script settings) past (map event_of turns)
+        → has_vanished past n ≡ false → TurnsOk past node turns
+        → Along (λ (past : List Event) (e : Event). IsEvent script settings past e × IsWhole script settings past e) past (map event_of turns)
     accepted past node [] same numbered runs ok = tt
-    accepted past node (t ∷ ts) same numbered runs (ok, (to, goes, number, more)) = (
-      event_is past node t same runs ok,
-      accepted (past ++ event_of t ∷ []) to ts
-          (node_more settings script past (event_of t) session ∙ ap (after_event settings script (event_of t)) same ∙ after_turn past node t numbered ok ∙ goes)
-          number (runs_on past t ok.own runs) more,
-    )
+    accepted past node (t ∷ ts) same numbered runs (ok, (to, goes, number, stays, more)) =
+        let led : node_after settings script (past ++ event_of t ∷ []) session ≡ to =
+        node_more settings script past (event_of t) session ∙ ap (after_event settings script (event_of t)) same ∙ after_turn past node t numbered ok ∙ goes in (
+          (event_is past node t same runs ok, λ request. whole_is past t to led stays),
+          accepted (past ++ event_of t ∷ []) to ts led number (runs_on past t ok.own runs) more,
+        )
 
 -- ---- what the bytes say
 
@@ -256,16 +264,19 @@ ends_ok = (
     _,
     refl,
     refl,
+    refl,
     (
       record { asks_so = refl; hears_so = refl; own = refl; means = tt; tells = refl },
       (
         _,
         refl,
         refl,
+        refl,
         (
           record { asks_so = refl; hears_so = refl; own = refl; means = tt; tells = refl },
           (
             _,
+            refl,
             refl,
             refl,
             tt,
@@ -321,10 +332,12 @@ commit_ok = (
     _,
     refl,
     refl,
+    refl,
     (
       record { asks_so = refl; hears_so = hears_nothing; own = refl; means = tt; tells = refl },
       (
         _,
+        refl,
         refl,
         refl,
         (
@@ -333,10 +346,12 @@ commit_ok = (
             _,
             refl,
             refl,
+            refl,
             (
               record { asks_so = refl; hears_so = refl; own = refl; means = tt; tells = refl },
               (
                 _,
+                refl,
                 refl,
                 refl,
                 (
@@ -345,10 +360,12 @@ commit_ok = (
                     _,
                     refl,
                     refl,
+                    refl,
                     (
                       record { asks_so = refl; hears_so = refl; own = refl; means = tt; tells = refl },
                       (
                         _,
+                        refl,
                         refl,
                         refl,
                         (
@@ -357,10 +374,12 @@ commit_ok = (
                             _,
                             refl,
                             refl,
+                            refl,
                             (
                               record { asks_so = refl; hears_so = hears_commits 5 1 (omega arith); own = refl; means = tt; tells = refl },
                               (
                                 _,
+                                refl,
                                 refl,
                                 refl,
                                 (
@@ -369,7 +388,8 @@ commit_ok = (
                                     _,
                                     refl,
                                     refl,
-                                    (select_ok, (selected_one, selects_one.comes_to, refl, ends_ok)),
+                                    refl,
+                                    (select_ok, (selected_one, selects_one.comes_to, refl, refl, ends_ok)),
                                   ),
                                 ),
                               ),
@@ -407,10 +427,12 @@ turns_ok = (
     _,
     refl,
     refl,
+    refl,
     (
       record { asks_so = refl; hears_so = refl; own = refl; means = tt; tells = refl },
       (
         _,
+        refl,
         refl,
         refl,
         (
@@ -419,10 +441,12 @@ turns_ok = (
             _,
             refl,
             refl,
+            refl,
             (
               record { asks_so = refl; hears_so = refl; own = refl; means = tt; tells = refl },
               (
                 _,
+                refl,
                 refl,
                 refl,
                 (
@@ -431,7 +455,8 @@ turns_ok = (
                     _,
                     refl,
                     refl,
-                    (insert_ok, (inserted_one, inserts_one, refl, commit_ok)),
+                    refl,
+                    (insert_ok, (inserted_one, inserts_one, refl, refl, commit_ok)),
                   ),
                 ),
               ),
@@ -444,8 +469,11 @@ turns_ok = (
 )
 
 -- its events are those of its script
+accepts_so : Along (λ (past : List Event) (e : Event). IsEvent script_one by_default past e × IsWhole script_one by_default past e) [] events_one
+accepts_so = accepted by_default script_one 1 session_one refl [] start_one turns_one refl refl refl turns_ok
+
 pub accepts_session : Along (IsEvent script_one by_default) [] events_one
-accepts_session = accepted by_default script_one 1 session_one refl [] start_one turns_one refl refl refl turns_ok
+accepts_session = along_first (IsEvent script_one by_default) (IsWhole script_one by_default) [] events_one accepts_so
 
 -- and tell its entries
 pub entries_session : entries_told events_one ≡ told_one
@@ -478,9 +506,12 @@ answered_so : Along (λ (past : List Event) (e : Event). is_refusal e.reply ≡ 
 answered_so =
     (refl, (refl, (refl, (refl, (refl, (refl, (refl, (refl, (refl, (refl, (refl, (refl, (refl, (refl, (refl, (refl, (refl, (refl, (refl, tt)))))))))))))))))))
 
+next_so : Along (IsNext script_one by_default) [] events_one
+next_so =
+    (inr (tt, refl), (inr ((refl, refl, refl), refl), (inr ((refl, refl, refl), refl), (inr ((refl, refl, refl), refl), (inr ((refl, refl, refl), refl), (inr ((refl, refl, refl), refl), (inr ((refl, refl, refl), refl), (inr ((refl, refl, refl), refl), (inr ((refl, refl, refl), refl), (inr ((refl, refl, refl), refl), (inr ((refl, refl, refl), refl), (inr ((refl, refl, refl), refl), (inr ((refl, refl, refl), refl), (inr ((refl, refl, refl), refl), (inr ((refl, refl, refl), refl), (inr ((refl, refl, refl), refl), (inr ((refl, refl, refl), refl), (inr ((refl, refl, refl), refl), (inr ((refl, refl, refl), refl), tt)))))))))))))))))))
+
 in_turn_so : Along (InTurn script_one by_default) [] events_one
-in_turn_so =
-    (inr refl, (inr refl, (inr refl, (inr refl, (inr refl, (inr refl, (inr refl, (inr refl, (inr refl, (inr refl, (inr refl, (inr refl, (inr refl, (inr refl, (inr refl, (inr refl, (inr refl, (inr refl, (inr refl, tt)))))))))))))))))))
+in_turn_so = in_turn_whole script_one by_default events_one (along_second (IsEvent script_one by_default) (IsWhole script_one by_default) [] events_one accepts_so) next_so
 
 pub journal_session : IsJournal script_one by_default events_one
 journal_session =

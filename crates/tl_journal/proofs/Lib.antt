@@ -19,7 +19,9 @@ pub mod Fits
 pub mod ForKeyTests
 pub mod Goings
 pub mod Gone
+pub mod Grows
 pub mod Heeded
+pub mod InOrder
 pub mod Insides
 pub mod Journals
 pub mod KeyOrder

@@ -51,6 +51,7 @@ use Rattle.tl_journal.specs.Bytes.{commits_in, entry_in, found_before, heard, pa
 use Rattle.tl_journal.specs.Node.{Node, opening_node}
 use Rattle.tl_journal.specs.Takes.{tables_seen}
 use Rattle.tl_journal.specs.Journal.{IsEvent}
+use Rattle.tl_journal.proofs.InOrder.{IsWhole, along_first}
 use Rattle.tl_journal.proofs.Accepted.{Turn, hears_commits, loads_commits, managed, stored_at}
 use Rattle.tl_journal.proofs.Examples.{all_hundred, all_keys, by_default, cell_is, change_by, found_at, hundreds, key, opening_version, records_so, result_so, second_alone, select_all, session_recoverer, session_writer, set_zero, start_recoverer, start_writer, upto, version, waits, writer_changes, writer_with, written_twice, zero_writes}
 use Rattle.tl_journal.proofs.Together.{Move, Vanishes, MovesOk, Stand, cell_reply, fits_row, move, moved, together}
@@ -223,10 +224,12 @@ moves_ok = (
     _,
     refl,
     refl,
+    refl,
     (
       (session_writer, refl, refl, record { asks_so = refl; hears_so = refl; own = refl; means = tt; tells = refl }),
       (
         _,
+        refl,
         refl,
         refl,
         (
@@ -235,10 +238,12 @@ moves_ok = (
             _,
             refl,
             refl,
+            refl,
             (
               (session_writer, refl, refl, record { asks_so = refl; hears_so = refl; own = refl; means = tt; tells = refl }),
               (
                 _,
+                refl,
                 refl,
                 refl,
                 (
@@ -247,10 +252,12 @@ moves_ok = (
                     _,
                     refl,
                     refl,
+                    refl,
                     (
                       (session_writer, refl, refl, record { asks_so = refl; hears_so = refl; own = refl; means = tt; tells = refl }),
                       (
                         _,
+                        refl,
                         refl,
                         refl,
                         (
@@ -259,10 +266,12 @@ moves_ok = (
                             _,
                             refl,
                             refl,
+                            refl,
                             (
                               (session_writer, refl, refl, record { asks_so = refl; hears_so = hears_page 2 1 (opening_version 2 ∷ []) (fits_opening 2 (omega arith)); own = refl; means = tt; tells = refl }),
                               (
                                 _,
+                                refl,
                                 refl,
                                 refl,
                                 (
@@ -271,10 +280,12 @@ moves_ok = (
                                     writer_with zero_writes,
                                     writer_changes,
                                     refl,
+                                    refl,
                                     (
                                       (session_writer, refl, refl, record { asks_so = refl; hears_so = refl; own = refl; means = tt; tells = refl }),
                                       (
                                         _,
+                                        refl,
                                         refl,
                                         refl,
                                         (
@@ -283,10 +294,12 @@ moves_ok = (
                                             _,
                                             refl,
                                             refl,
+                                            refl,
                                             (
                                               (session_writer, refl, refl, record { asks_so = refl; hears_so = refl; own = refl; means = tt; tells = refl }),
                                               (
                                                 _,
+                                                refl,
                                                 refl,
                                                 refl,
                                                 (
@@ -295,10 +308,12 @@ moves_ok = (
                                                     _,
                                                     refl,
                                                     refl,
+                                                    refl,
                                                     (
                                                       (session_writer, refl, refl, record { asks_so = refl; hears_so = refl; own = refl; means = tt; tells = refl }),
                                                       (
                                                         _,
+                                                        refl,
                                                         refl,
                                                         refl,
                                                         (
@@ -309,10 +324,12 @@ moves_ok = (
                                                               _,
                                                               refl,
                                                               refl,
+                                                              refl,
                                                               (
                                                                 (session_recoverer, refl, refl, record { asks_so = refl; hears_so = refl; own = refl; means = tt; tells = refl }),
                                                                 (
                                                                   _,
+                                                                  refl,
                                                                   refl,
                                                                   refl,
                                                                   (
@@ -321,10 +338,12 @@ moves_ok = (
                                                                       _,
                                                                       refl,
                                                                       refl,
+                                                                      refl,
                                                                       (
                                                                         (session_recoverer, refl, refl, record { asks_so = refl; hears_so = hears_page 1 4 (written_twice 1) (fits_twice 1 (omega arith)); own = refl; means = tt; tells = refl }),
                                                                         (
                                                                           _,
+                                                                          refl,
                                                                           refl,
                                                                           refl,
                                                                           (
@@ -333,10 +352,12 @@ moves_ok = (
                                                                               _,
                                                                               refl,
                                                                               refl,
+                                                                              refl,
                                                                               (
                                                                                 (session_recoverer, refl, refl, record { asks_so = refl; hears_so = hears_page 3 1 (opening_version 3 ∷ []) (fits_opening 3 (omega arith)); own = refl; means = select_means; tells = refl }),
                                                                                 (
                                                                                   _,
+                                                                                  refl,
                                                                                   refl,
                                                                                   refl,
                                                                                   (
@@ -345,10 +366,12 @@ moves_ok = (
                                                                                       _,
                                                                                       refl,
                                                                                       refl,
+                                                                                      refl,
                                                                                       (
                                                                                         (session_recoverer, refl, refl, record { asks_so = refl; hears_so = refl; own = refl; means = tt; tells = refl }),
                                                                                         (
                                                                                           _,
+                                                                                          refl,
                                                                                           refl,
                                                                                           refl,
                                                                                           (
@@ -357,10 +380,12 @@ moves_ok = (
                                                                                               _,
                                                                                               refl,
                                                                                               refl,
+                                                                                              refl,
                                                                                               (
                                                                                                 (session_recoverer, refl, refl, record { asks_so = refl; hears_so = refl; own = refl; means = tt; tells = refl }),
                                                                                                 (
                                                                                                   _,
+                                                                                                  refl,
                                                                                                   refl,
                                                                                                   refl,
                                                                                                   (
@@ -369,10 +394,12 @@ moves_ok = (
                                                                                                       _,
                                                                                                       refl,
                                                                                                       refl,
+                                                                                                      refl,
                                                                                                       (
                                                                                                         (session_recoverer, refl, refl, record { asks_so = refl; hears_so = hears_log; own = refl; means = tt; tells = refl }),
                                                                                                         (
                                                                                                           _,
+                                                                                                          refl,
                                                                                                           refl,
                                                                                                           refl,
                                                                                                           (
@@ -381,10 +408,12 @@ moves_ok = (
                                                                                                               _,
                                                                                                               refl,
                                                                                                               refl,
+                                                                                                              refl,
                                                                                                               (
                                                                                                                 (session_recoverer, refl, refl, record { asks_so = refl; hears_so = refl; own = refl; means = tt; tells = refl }),
                                                                                                                 (
                                                                                                                   _,
+                                                                                                                  refl,
                                                                                                                   refl,
                                                                                                                   refl,
                                                                                                                   (
@@ -393,10 +422,12 @@ moves_ok = (
                                                                                                                       _,
                                                                                                                       refl,
                                                                                                                       refl,
+                                                                                                                      refl,
                                                                                                                       (
                                                                                                                         (session_recoverer, refl, refl, record { asks_so = refl; hears_so = refl; own = refl; means = tt; tells = refl }),
                                                                                                                         (
                                                                                                                           _,
+                                                                                                                          refl,
                                                                                                                           refl,
                                                                                                                           refl,
                                                                                                                           (
@@ -405,10 +436,12 @@ moves_ok = (
                                                                                                                               _,
                                                                                                                               refl,
                                                                                                                               refl,
+                                                                                                                              refl,
                                                                                                                               (
                                                                                                                                 (session_recoverer, refl, refl, record { asks_so = refl; hears_so = refl; own = refl; means = tt; tells = refl }),
                                                                                                                                 (
                                                                                                                                   _,
+                                                                                                                                  refl,
                                                                                                                                   refl,
                                                                                                                                   refl,
                                                                                                                                   (
@@ -417,10 +450,12 @@ moves_ok = (
                                                                                                                                       _,
                                                                                                                                       refl,
                                                                                                                                       refl,
+                                                                                                                                      refl,
                                                                                                                                       (
                                                                                                                                         (session_recoverer, refl, refl, record { asks_so = refl; hears_so = refl; own = refl; means = tt; tells = refl }),
                                                                                                                                         (
                                                                                                                                           _,
+                                                                                                                                          refl,
                                                                                                                                           refl,
                                                                                                                                           refl,
                                                                                                                                           (
@@ -429,10 +464,12 @@ moves_ok = (
                                                                                                                                               _,
                                                                                                                                               refl,
                                                                                                                                               refl,
+                                                                                                                                              refl,
                                                                                                                                               (
                                                                                                                                                 (session_recoverer, refl, refl, record { asks_so = refl; hears_so = hears_commits 8 2 (omega arith); own = refl; means = tt; tells = refl }),
                                                                                                                                                 (
                                                                                                                                                   _,
+                                                                                                                                                  refl,
                                                                                                                                                   refl,
                                                                                                                                                   refl,
                                                                                                                                                   (
@@ -441,10 +478,12 @@ moves_ok = (
                                                                                                                                                       _,
                                                                                                                                                       refl,
                                                                                                                                                       refl,
+                                                                                                                                                      refl,
                                                                                                                                                       (
                                                                                                                                                         (session_recoverer, refl, refl, record { asks_so = refl; hears_so = refl; own = refl; means = tt; tells = refl }),
                                                                                                                                                         (
                                                                                                                                                           _,
+                                                                                                                                                          refl,
                                                                                                                                                           refl,
                                                                                                                                                           refl,
                                                                                                                                                           (
@@ -453,10 +492,12 @@ moves_ok = (
                                                                                                                                                               _,
                                                                                                                                                               refl,
                                                                                                                                                               refl,
+                                                                                                                                                              refl,
                                                                                                                                                               (
                                                                                                                                                                 (session_recoverer, refl, refl, record { asks_so = refl; hears_so = hears_page 2 3 (opening_version 2 ∷ []) (fits_opening 2 (omega arith)); own = refl; means = tt; tells = refl }),
                                                                                                                                                                 (
                                                                                                                                                                   _,
+                                                                                                                                                                  refl,
                                                                                                                                                                   refl,
                                                                                                                                                                   refl,
                                                                                                                                                                   (
@@ -465,10 +506,12 @@ moves_ok = (
                                                                                                                                                                       _,
                                                                                                                                                                       refl,
                                                                                                                                                                       refl,
+                                                                                                                                                                      refl,
                                                                                                                                                                       (
                                                                                                                                                                         (session_recoverer, refl, refl, record { asks_so = refl; hears_so = hears_commits 8 2 (omega arith); own = refl; means = tt; tells = refl }),
                                                                                                                                                                         (
                                                                                                                                                                           _,
+                                                                                                                                                                          refl,
                                                                                                                                                                           refl,
                                                                                                                                                                           refl,
                                                                                                                                                                           (
@@ -477,10 +520,12 @@ moves_ok = (
                                                                                                                                                                               _,
                                                                                                                                                                               refl,
                                                                                                                                                                               refl,
+                                                                                                                                                                              refl,
                                                                                                                                                                               (
                                                                                                                                                                                 (session_recoverer, refl, refl, record { asks_so = refl; hears_so = refl; own = refl; means = tt; tells = refl }),
                                                                                                                                                                                 (
                                                                                                                                                                                   _,
+                                                                                                                                                                                  refl,
                                                                                                                                                                                   refl,
                                                                                                                                                                                   refl,
                                                                                                                                                                                   tt,
@@ -589,5 +634,8 @@ start_stands =
     one k false true f g s e = subst (λ (m : ℕ). (opening_node by_default s ≡ starts m) × ((starts m).number ≡ m)) (eqb-true 2 k g) (ap (opening_node by_default) (sym (some_same _ _ e)), refl)
     one k false false f g s e = absurd cc
 
+pub accepts_whole : Along (λ (past : List Event) (e : Event). IsEvent script_recovery by_default past e × IsWhole script_recovery by_default past e) [] events_recovery
+accepts_whole = together by_default script_recovery [] starts (λ n. false) moves_recovery start_stands moves_ok
+
 pub accepts_recovery : Along (IsEvent script_recovery by_default) [] events_recovery
-accepts_recovery = together by_default script_recovery [] starts (λ n. false) moves_recovery start_stands moves_ok
+accepts_recovery = along_first (IsEvent script_recovery by_default) (IsWhole script_recovery by_default) [] events_recovery accepts_whole

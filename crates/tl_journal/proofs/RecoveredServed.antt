@@ -15,11 +15,12 @@ use Rattle.tl_manager.specs.Serves.{ServesAll as ManagerServes}
 use Rattle.tl_isolation.specs.declared.entry.Ending.TheVariants as ending
 use Rattle.tl_isolation.specs.Script.{setup_of}
 use Rattle.tl_journal.specs.declared.event.Event.{Event}
-use Rattle.tl_journal.specs.Journal.{IsCall, manager_log, shard_log}
+use Rattle.tl_journal.specs.Journal.{IsCall, IsEvent, manager_log, shard_log}
 use Rattle.tl_journal.specs.Run.{EndsAt, IsJournal}
 use Rattle.tl_journal.specs.Schedule.{InTurn, is_refusal}
 use Rattle.tl_journal.proofs.Examples.{by_default}
-use Rattle.tl_journal.proofs.Recovered.{accepts_recovery, events_recovery, script_recovery}
+use Rattle.tl_journal.proofs.InOrder.{IsNext, IsWhole, along_second, in_turn_whole}
+use Rattle.tl_journal.proofs.Recovered.{accepts_recovery, accepts_whole, events_recovery, script_recovery}
 
 -- ---- what a page has
 
@@ -77,9 +78,12 @@ answered_so : Along (λ (past : List Event) (e : Event). is_refusal e.reply ≡ 
 answered_so =
     (refl, (refl, (refl, (refl, (refl, (refl, (refl, (refl, (refl, (refl, (refl, (refl, (refl, (refl, (refl, (refl, (refl, (refl, (refl, (refl, (refl, (refl, (refl, (refl, (refl, (refl, (refl, (refl, (refl, (refl, (refl, (refl, (refl, (refl, (refl, (refl, (refl, (refl, (refl, (refl, (refl, (refl, (refl, (refl, (refl, tt)))))))))))))))))))))))))))))))))))))))))))))
 
+next_so : Along (IsNext script_recovery by_default) [] events_recovery
+next_so =
+    (inr (tt, refl), (inr ((refl, refl, refl), refl), (inr ((refl, refl, refl), refl), (inr ((refl, refl, refl), refl), (inr ((refl, refl, refl), refl), (inr ((refl, refl, refl), refl), (inr ((refl, refl, refl), refl), (inr ((refl, refl, refl), refl), (inr ((refl, refl, refl), refl), (inr ((refl, refl, refl), refl), (inr ((refl, refl, refl), refl), (inr ((refl, refl, refl), refl), (inr ((refl, refl, refl), refl), (inr ((refl, refl, refl), refl), (inl (refl, refl), (inl (inr refl), (inr ((refl, refl, refl), refl), (inr ((refl, refl, refl), refl), (inr ((refl, refl, refl), refl), (inr ((refl, refl, refl), refl), (inr ((refl, refl, refl), refl), (inr ((refl, refl, refl), refl), (inr ((refl, refl, refl), refl), (inr ((refl, refl, refl), refl), (inr ((refl, refl, refl), refl), (inr ((refl, refl, refl), refl), (inr ((refl, refl, refl), refl), (inr ((refl, refl, refl), refl), (inr ((refl, refl, refl), refl), (inr ((refl, refl, refl), refl), (inr ((refl, refl, refl), refl), (inr ((refl, refl, refl), refl), (inr ((refl, refl, refl), refl), (inr ((refl, refl, refl), refl), (inr ((refl, refl, refl), refl), (inr ((refl, refl, refl), refl), (inr ((refl, refl, refl), refl), (inr ((refl, refl, refl), refl), (inr ((refl, refl, refl), refl), (inr ((refl, refl, refl), refl), (inr ((refl, refl, refl), refl), (inr ((refl, refl, refl), refl), (inr ((refl, refl, refl), refl), (inr ((refl, refl, refl), refl), (inr ((refl, refl, refl), refl), tt)))))))))))))))))))))))))))))))))))))))))))))
+
 in_turn_so : Along (InTurn script_recovery by_default) [] events_recovery
-in_turn_so =
-    (inr refl, (inr refl, (inr refl, (inr refl, (inr refl, (inr refl, (inr refl, (inr refl, (inr refl, (inr refl, (inr refl, (inr refl, (inr refl, (inr refl, ((refl, refl), (inr refl, (inr refl, (inr refl, (inr refl, (inr refl, (inr refl, (inr refl, (inr refl, (inr refl, (inr refl, (inr refl, (inr refl, (inr refl, (inr refl, (inr refl, (inr refl, (inr refl, (inr refl, (inr refl, (inr refl, (inr refl, (inr refl, (inr refl, (inr refl, (inr refl, (inr refl, (inr refl, (inr refl, (inr refl, (inr refl, tt)))))))))))))))))))))))))))))))))))))))))))))
+in_turn_so = in_turn_whole script_recovery by_default events_recovery (along_second (IsEvent script_recovery by_default) (IsWhole script_recovery by_default) [] events_recovery accepts_whole) next_so
 
 pub journal_recovery : IsJournal script_recovery by_default events_recovery
 journal_recovery =

@@ -48,9 +48,11 @@ use Rattle.tl_journal.specs.Takes.{MeansRead, after_reply, takes}
 use Rattle.tl_journal.specs.Says.{says_read}
 use Rattle.tl_journal.specs.Run.{EndsAt, IsJournal}
 use Rattle.tl_journal.specs.Schedule.{InTurn, is_refusal}
+use Rattle.tl_journal.specs.Strange.{is_stopped}
+use Rattle.tl_journal.proofs.InOrder.{IsNext, IsWhole, along_first, along_second, in_turn_whole}
 use Rattle.tl_journal.specs.Journal.{IsCall, IsEvent, after_event, has_vanished, is_post, manager_log, node_after, session_of, shard_log}
 use Rattle.tl_journal.proofs.Logs.{node_more, vanished_more}
-use Rattle.tl_journal.proofs.Accepted.{Turn, TurnOk, after_turn, event_is, event_of, hears_commits, said_at, managed, stored_at, loads_commits}
+use Rattle.tl_journal.proofs.Accepted.{Turn, TurnOk, after_turn, event_is, event_of, hears_commits, said_at, managed, stored_at, loads_commits, whole_is}
 use Rattle.tl_journal.proofs.Examples.{add_five, begun_by, by_default, cell_is, change_by, changed_by, changes_first, changes_second, first_cell, key, opened_txn, result_so, reads_by, session_by, start_by, take_ten, upto, version}
 
 -- a turn of a node, or its death notice
@@ -81,7 +83,7 @@ module _ (settings : Settings) (script : Script) where
   MovesOk past at gone [] = Unit {0}
   MovesOk past at gone (Asks n t ∷ ms) =
       ((session : Session) × (session_of script n ≡ Some session) × (gone n ≡ false) × TurnOk settings script n past (at n) t)
-      × ((to : Node) × (takes settings script.catalog (at n) t.hears (said_at t) ≡ to) × (to.number ≡ n)
+      × ((to : Node) × (takes settings script.catalog (at n) t.hears (said_at t) ≡ to) × (to.number ≡ n) × (is_stopped to.doing ≡ false)
       × MovesOk (past ++ event_of settings script n t ∷ []) (put n to at) gone ms)
   MovesOk past at gone (Vanishes n nodes ending ∷ ms) =
       ((session : Session) × (session_of script n ≡ Some session) × (gone n ≡ false) × (nodes ≡ owed_by (at n).doing))
@@ -149,23 +151,36 @@ module _ (settings : Settings) (script : Script) where
       one true false c e = e
       one false false c e = e
 
+  put_there : (n : ℕ) (to : Node) (at : ℕ → Node) → put n to at n ≡ to
+  put_there n to at = ap (λ (b : Bool). if b then to else at n) (same_number n)
+
+  not_posted : (b : Bool) → true ≡ false → b ≡ false
+  not_posted b e = absurd cc
+
   pub together : (past : List Event) (at : ℕ → Node) (gone : ℕ → Bool) (moves : List Move) → Stand past at gone → MovesOk past at gone moves
-      → Along (IsEvent script settings) past (map moved moves)
+      → Along (λ (past : List Event) (e : Event). IsEvent script settings past e × IsWhole script settings past e) past (map moved moves)
   together past at gone [] st ok = tt
-  together past at gone (Asks n t ∷ ms) st ((session, is, runs, ok), (to, goes, number, more)) = (
-    event_is settings script n session is past (at n) t (st.nodes n session is) (st.run n ∙ runs) ok,
-    together (past ++ event_of settings script n t ∷ []) (put n to at) gone ms (next_stand past at gone n t to session is st ok goes number) more,
-  )
+  together past at gone (Asks n t ∷ ms) st ((session, is, runs, ok), (to, goes, number, stays, more)) =
+      let stand : Stand (past ++ event_of settings script n t ∷ []) (put n to at) gone = next_stand past at gone n t to session is st ok goes number in (
+        (
+          event_is settings script n session is past (at n) t (st.nodes n session is) (st.run n ∙ runs) ok,
+          λ request. whole_is settings script n session is past t to (stand.nodes n session is ∙ put_there n to at) stays,
+        ),
+        together (past ++ event_of settings script n t ∷ []) (put n to at) gone ms stand more,
+      )
   together past at gone (Vanishes n nodes ending ∷ ms) st ((session, is, runs, owed), more) = (
-    inr (inl (record {
-      session = session;
-      is_session = is;
-      runs = st.run n ∙ runs;
-      stands_at = refl;
-      notice = ap (λ (x : NodeSet). request.Manager (manager.Post n x)) (owed ∙ ap (λ (x : Node). owed_by x.doing) (sym (st.nodes n session is)));
-      ending = ending;
-      told = refl;
-    })),
+    (
+      inr (inl (record {
+        session = session;
+        is_session = is;
+        runs = st.run n ∙ runs;
+        stands_at = refl;
+        notice = ap (λ (x : NodeSet). request.Manager (manager.Post n x)) (owed ∙ ap (λ (x : Node). owed_by x.doing) (sym (st.nodes n session is)));
+        ending = ending;
+        told = refl;
+      })),
+      λ request. not_posted _ request,
+    ),
     together (past ++ notice_of n nodes ending ∷ []) at (put n true gone) ms (stand_without past at gone n nodes ending st) more,
   )
 
@@ -305,10 +320,12 @@ moves_ok = (
     _,
     refl,
     refl,
+    refl,
     (
       (session_by 1 take_ten, refl, refl, record { asks_so = refl; hears_so = refl; own = refl; means = tt; tells = refl }),
       (
         _,
+        refl,
         refl,
         refl,
         (
@@ -317,10 +334,12 @@ moves_ok = (
             _,
             refl,
             refl,
+            refl,
             (
               (session_by 1 take_ten, refl, refl, record { asks_so = refl; hears_so = refl; own = refl; means = tt; tells = refl }),
               (
                 _,
+                refl,
                 refl,
                 refl,
                 (
@@ -329,16 +348,19 @@ moves_ok = (
                     _,
                     refl,
                     refl,
+                    refl,
                     (
                       (session_by 1 take_ten, refl, refl, changes_ok _),
                       (
                         first_changed,
                         changes_first.comes_to,
                         refl,
+                        refl,
                         (
                           (session_by 2 add_five, refl, refl, record { asks_so = refl; hears_so = hears_commits 1 0 (omega arith); own = refl; means = tt; tells = refl }),
                           (
                             _,
+                            refl,
                             refl,
                             refl,
                             (
@@ -347,16 +369,19 @@ moves_ok = (
                                 _,
                                 refl,
                                 refl,
+                                refl,
                                 (
                                   (session_by 2 add_five, refl, refl, also_changes_ok _),
                                   (
                                     second_changed,
                                     changes_second.comes_to,
                                     refl,
+                                    refl,
                                     (
                                       (session_by 1 take_ten, refl, refl, record { asks_so = refl; hears_so = refl; own = refl; means = tt; tells = refl }),
                                       (
                                         _,
+                                        refl,
                                         refl,
                                         refl,
                                         (
@@ -365,10 +390,12 @@ moves_ok = (
                                             _,
                                             refl,
                                             refl,
+                                            refl,
                                             (
                                               (session_by 1 take_ten, refl, refl, record { asks_so = refl; hears_so = refl; own = refl; means = tt; tells = refl }),
                                               (
                                                 _,
+                                                refl,
                                                 refl,
                                                 refl,
                                                 (
@@ -377,10 +404,12 @@ moves_ok = (
                                                     _,
                                                     refl,
                                                     refl,
+                                                    refl,
                                                     (
                                                       (session_by 1 take_ten, refl, refl, record { asks_so = refl; hears_so = hears_commits 1 0 (omega arith); own = refl; means = tt; tells = refl }),
                                                       (
                                                         _,
+                                                        refl,
                                                         refl,
                                                         refl,
                                                         (
@@ -389,10 +418,12 @@ moves_ok = (
                                                             _,
                                                             refl,
                                                             refl,
+                                                            refl,
                                                             (
                                                               (session_by 1 take_ten, refl, refl, record { asks_so = refl; hears_so = refl; own = refl; means = tt; tells = refl }),
                                                               (
                                                                 _,
+                                                                refl,
                                                                 refl,
                                                                 refl,
                                                                 (
@@ -401,10 +432,12 @@ moves_ok = (
                                                                     _,
                                                                     refl,
                                                                     refl,
+                                                                    refl,
                                                                     (
                                                                       (session_by 2 add_five, refl, refl, record { asks_so = refl; hears_so = hears_both; own = refl; means = tt; tells = refl }),
                                                                       (
                                                                         _,
+                                                                        refl,
                                                                         refl,
                                                                         refl,
                                                                         (
@@ -413,10 +446,12 @@ moves_ok = (
                                                                             _,
                                                                             refl,
                                                                             refl,
+                                                                            refl,
                                                                             (
                                                                               (session_by 2 add_five, refl, refl, record { asks_so = refl; hears_so = hears_commits 6 1 (omega arith); own = refl; means = tt; tells = refl }),
                                                                               (
                                                                                 _,
+                                                                                refl,
                                                                                 refl,
                                                                                 refl,
                                                                                 (
@@ -425,10 +460,12 @@ moves_ok = (
                                                                                     _,
                                                                                     refl,
                                                                                     refl,
+                                                                                    refl,
                                                                                     (
                                                                                       (session_by 2 add_five, refl, refl, record { asks_so = refl; hears_so = refl; own = refl; means = tt; tells = refl }),
                                                                                       (
                                                                                         _,
+                                                                                        refl,
                                                                                         refl,
                                                                                         refl,
                                                                                         tt,
@@ -492,8 +529,11 @@ start_stands =
     one k false true f g s e = subst (λ (m : ℕ). (opening_node by_default s ≡ starts m) × ((starts m).number ≡ m)) (eqb-true 2 k g) (ap (opening_node by_default) (sym (some_same _ _ e)), refl)
     one k false false f g s e = absurd cc
 
+accepts_so : Along (λ (past : List Event) (e : Event). IsEvent script_conflict by_default past e × IsWhole script_conflict by_default past e) [] events_conflict
+accepts_so = together by_default script_conflict [] starts (λ n. false) moves_conflict start_stands moves_ok
+
 pub accepts_conflict : Along (IsEvent script_conflict by_default) [] events_conflict
-accepts_conflict = together by_default script_conflict [] starts (λ n. false) moves_conflict start_stands moves_ok
+accepts_conflict = along_first (IsEvent script_conflict by_default) (IsWhole script_conflict by_default) [] events_conflict accepts_so
 
 -- ---- its events are a journal
 
@@ -523,9 +563,12 @@ answered_so : Along (λ (past : List Event) (e : Event). is_refusal e.reply ≡ 
 answered_so =
     (refl, (refl, (refl, (refl, (refl, (refl, (refl, (refl, (refl, (refl, (refl, (refl, (refl, (refl, (refl, (refl, (refl, (refl, (refl, (refl, (refl, (refl, tt))))))))))))))))))))))
 
+next_so : Along (IsNext script_conflict by_default) [] events_conflict
+next_so =
+    (inr (tt, refl), (inr ((refl, refl, refl), refl), (inr ((refl, refl, refl), refl), (inr ((refl, refl, refl), refl), (inr ((refl, refl, refl), refl), (inr ((refl, refl, refl), refl), (inr ((refl, refl, refl), refl), (inr ((refl, refl, refl), refl), (inr ((refl, refl, refl), refl), (inr ((refl, refl, refl), refl), (inr ((refl, refl, refl), refl), (inr ((refl, refl, refl), refl), (inr ((refl, refl, refl), refl), (inr ((refl, refl, refl), refl), (inr ((refl, refl, refl), refl), (inr ((refl, refl, refl), refl), (inr ((refl, refl, refl), refl), (inr ((refl, refl, refl), refl), (inr ((refl, refl, refl), refl), (inr ((refl, refl, refl), refl), (inr ((refl, refl, refl), refl), (inr ((refl, refl, refl), refl), tt))))))))))))))))))))))
+
 in_turn_so : Along (InTurn script_conflict by_default) [] events_conflict
-in_turn_so =
-    (inr refl, (inr refl, (inr refl, (inr refl, (inr refl, (inr refl, (inr refl, (inr refl, (inr refl, (inr refl, (inr refl, (inr refl, (inr refl, (inr refl, (inr refl, (inr refl, (inr refl, (inr refl, (inr refl, (inr refl, (inr refl, (inr refl, tt))))))))))))))))))))))
+in_turn_so = in_turn_whole script_conflict by_default events_conflict (along_second (IsEvent script_conflict by_default) (IsWhole script_conflict by_default) [] events_conflict accepts_so) next_so
 
 pub journal_conflict : IsJournal script_conflict by_default events_conflict
 journal_conflict =

@@ -24,7 +24,8 @@ use Rattle.tl_isolation.specs.declared.script.VanishKind.{VanishKind}
 use Rattle.tl_isolation.specs.declared.script.VanishKind.TheVariants as kind
 use Rattle.tl_isolation.specs.Script.{answers_by}
 use Rattle.tl_journal.specs.declared.event.Event.{Event}
-use Rattle.tl_journal.specs.Journal.{entries_told, has_vanished, is_post, session_of}
+use Rattle.tl_journal.specs.Journal.{entries_told, has_vanished, is_post, node_after, session_of}
+use Rattle.tl_journal.specs.Strange.{is_stopped}
 
 -- whether a key begins with this byte
 abbrev pub is_kind : ℕ → List ℕ → Bool
@@ -79,15 +80,46 @@ is_done script events node = by (session_of script node)
     by None = true
     by (Some session) = nat_le (length session.statements) (length (answers_by node (entries_told events)))
 
-abbrev pub is_spent : Script → Settings → List Event → ℕ → Bool
-is_spent script settings events node = nat_le settings.budget (length (requests_of node events)) && not (is_done script events node)
+-- the node wanted memory at a reply at which it had something to say, and didn't say it: it asks nothing more
+abbrev pub was_cut : Script → Settings → List Event → ℕ → Bool
+was_cut script settings events node = by (session_of script node)
+  where
+    by : Option Session → Bool
+    by None = false
+    by (Some session) = is_stopped (node_after settings script events session).doing
 
--- a node ends as vanished exactly where its count is reached, and as spent only where its budget is and it has more to
--- do; it wants memory only where it has more to do
+-- its budget is used up, and it has one more request to make
+abbrev pub is_spent : Script → Settings → List Event → ℕ → Bool
+is_spent script settings events node =
+    nat_le settings.budget (length (requests_of node events)) && (not (is_done script events node) && not (was_cut script settings events node))
+
+abbrev pub latest : List Event → Option Event
+latest [] = None
+latest (e ∷ []) = Some e
+latest (e ∷ f ∷ es) = latest (f ∷ es)
+
+abbrev pub is_answer : Entry → Bool
+is_answer (entry.Said node bound said) = true
+is_answer (entry.Answered node statement told) = true
+is_answer e = false
+
+-- the last request of the node gave no answer
+abbrev pub gave_none : ℕ → List Event → Bool
+gave_none node events = by (latest (requests_of node events))
+  where
+    by : Option Event → Bool
+    by None = false
+    by (Some before) = not (list_any is_answer before.entries)
+
+-- Whether a node that asks no more ended so: as vanished exactly where its count is reached; as spent where that isn't, its
+-- budget is used up and it has one more request to make; as out of memory where its count isn't reached and it has more to
+-- do, and it wanted memory at its last reply, which then gave no answer, or before a reply that its budget still allows
 abbrev pub EndsSo : Script → Settings → List Event → ℕ → Ending → Type 0
 EndsSo script settings past node ending.Vanished = is_due script past node ≡ true
 EndsSo script settings past node ending.Spent = (is_due script past node ≡ false) × (is_spent script settings past node ≡ true)
-EndsSo script settings past node ending.OutOfMemory = (is_due script past node ≡ false) × (is_done script past node ≡ false)
+EndsSo script settings past node ending.OutOfMemory =
+    (is_due script past node ≡ false) × (is_done script past node ≡ false)
+    × ((gave_none node past ≡ true) ⊎ (length (requests_of node past) < settings.budget))
 
 -- no request is made where the count is reached or the budget is used up
 abbrev pub MayAsk : Script → Settings → List Event → ℕ → Type 0
@@ -141,12 +173,9 @@ abbrev pub ticked : ℕ → List TurnItem → Clock → Clock
 ticked node [] clock = record { items = []; last = node }
 ticked node (item ∷ items) clock = record clock { items = taken item ∷ items }
 
-abbrev pub latest : List Event → Option Event
-latest [] = None
-latest (e ∷ []) = Some e
-latest (e ∷ f ∷ es) = latest (f ∷ es)
-
--- a death notice directly behind a request of its node belongs to the same turn
+-- A death notice directly behind a request of its node belongs to the same turn. Where it is a turn of its own, that of a node
+-- that had the turn before too and found no memory for a request, it is passed over all the same. Nobody's turn changes by that:
+-- the node is over then, so an item of it is finished, and the next round from it and from the node before comes to the same
 abbrev pub is_behind : List Event → Event → Bool
 is_behind past e = is_post e.request && by (latest past)
   where
@@ -162,37 +191,30 @@ clock_from script past clock (e ∷ es) =
 abbrev pub clock_after : Script → List Event → Clock
 clock_after script events = clock_from script [] (record { items = script.turns; last = 0 }) events
 
--- a node whose count or budget is reached posts its notice before anything else happens
-abbrev pub owes_notice : Script → Settings → List Event → Option ℕ
-owes_notice script settings past = by (latest past)
+-- a node that has asked and is still there owes its death notice, where its count is reached, or it wanted memory at a reply
+-- and didn't say what it had to say, or its budget is used up and it has one more request to make
+abbrev pub owes_notice : Script → Settings → List Event → ℕ → Bool
+owes_notice script settings events node =
+    (nat_lt 0 (length (requests_of node events)) && not (has_vanished events node))
+    && (is_due script events node || (was_cut script settings events node || is_spent script settings events node))
+
+-- the node that owes it directly behind its request, before anything else happens
+abbrev pub owing : Script → Settings → List Event → Option ℕ
+owing script settings past = by (latest past)
   where
     by : Option Event → Option ℕ
     by None = None
-    by (Some before) =
-        if not (is_post before.request) && (is_due script past before.node || is_spent script settings past before.node)
-        then Some before.node else None
+    by (Some before) = if owes_notice script settings past before.node then Some before.node else None
 
--- the event directly before gave no answer
-abbrev pub gave_none : List Event → Bool
-gave_none past = by (latest past)
-  where
-    is_answer : Entry → Bool
-    is_answer (entry.Said node bound said) = true
-    is_answer (entry.Answered node statement told) = true
-    is_answer e = false
-
-    by : Option Event → Bool
-    by None = false
-    by (Some before) = not (list_any is_answer before.entries)
-
--- the event stands in the order of the schedule; a notice that isn't owed stands directly behind a request of its node
--- only where the node wanted memory at the reply, and so gave no answer
+-- The event stands in the order of the schedule. A notice that is owed comes before anything else. One that isn't owed is a
+-- turn of its node, or stands directly behind a request of it whose reply gave no answer: at a reply where nothing is to be
+-- said, that a node wanted memory shows by its notice alone
 abbrev pub InTurn : Script → Settings → List Event → Event → Type 0
-InTurn script settings past e = by (owes_notice script settings past)
+InTurn script settings past e = by (owing script settings past)
   where
     by : Option ℕ → Type 0
     by (Some node) = (e.node ≡ node) × (is_post e.request ≡ true)
-    by None = ((is_behind past e ≡ true) × (gave_none past ≡ true)) ⊎ (turn_at script past (clock_after script past) ≡ Some e.node)
+    by None = ((is_behind past e ≡ true) × (gave_none e.node past ≡ true)) ⊎ (turn_at script past (clock_after script past) ≡ Some e.node)
 
 -- no place replies that it is full, or that a transaction isn't active
 abbrev pub is_refusal : Reply → Bool

@@ -10,7 +10,7 @@ use Rattle.tl_isolation.proofs.Lookups.{passes}
 use Rattle.tl_journal.specs.declared.event.Event.{Event}
 use Rattle.tl_journal.specs.Journal.{entries_told}
 use Rattle.tl_journal.specs.Schedule.{Clock, is_finished, is_over, next_round, node_of, turn_at, turn_by, unfinished}
-use Rattle.tl_turns.proofs.Grows.{finished_stays}
+use Rattle.tl_journal.proofs.Grows.{finished_stays}
 
 not_true : (b : Bool) → not b ≡ true → b ≡ false
 not_true false e = refl

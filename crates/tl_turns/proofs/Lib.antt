@@ -1,7 +1,6 @@
 pub mod Behind
 pub mod Clocks
 pub mod Finished
-pub mod Grows
 pub mod Refusals
 pub mod Rounds
 pub mod Rows

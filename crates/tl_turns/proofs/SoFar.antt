@@ -27,7 +27,7 @@ use Rattle.tl_turns.specs.Clock.{after_turn, clock_of, passed}
 use Rattle.tl_turns.specs.declared.clock.Clock as code
 use Rattle.tl_turns.proofs.Clocks.{Agree, after_more, agree_later, agree_turned, behind_own, behind_stays, clock_then, latest_more, same_turn}
 use Rattle.tl_turns.proofs.Finished.{no_turn, turn_runs}
-use Rattle.tl_turns.proofs.Grows.{left_true}
+use Rattle.tl_journal.proofs.Grows.{left_true}
 use Rattle.tl_turns.proofs.Refusals.{none_refused}
 use Rattle.tl_turns.proofs.Rounds.{all_over}
 

@@ -14,7 +14,7 @@ use Rattle.tl_places.specs.Places.{AreAt, PlacesState}
 use Rattle.tl_node.specs.Seen.{seen}
 use Rattle.tl_world.specs.Opening.{AreOpened, IsOpened}
 use Rattle.tl_world.specs.Premises.{LogsAreServed}
-use Rattle.tl_world.specs.Stands.{HasSlot, IsNode, IsRunning, IsSlot, SlotValue, Stands, WorldValue, counted_by, slot_of}
+use Rattle.tl_world.specs.Stands.{HasSlot, IsNode, IsRunning, IsSlot, SlotValue, Stands, StandsOn, WorldValue, counted_by, slot_of}
 
 true_false : true ≡ false → ⊥
 true_false e = cc
@@ -45,6 +45,7 @@ module _ (script : Script) (settings : Settings) where
         statements = h.statements;
         stands = h.stands;
         owed = ap (λ (n : Node). owed_by n.doing) h.stands.node_is ∙ owed_first session;
+        goes_on = refl;
       },
     );
     made_is = h.made_is;
@@ -94,7 +95,7 @@ first_world settings places slots = record { settings = settings; places = place
 pub opens : LogsAreServed → (script : Script) (settings : Settings) → IsBound script settings → 1 ≤ settings.shards → settings.shards ≤ 16 → 1 ≤ settings.managers
     → settings.managers ≤ 4 → length script.rows < 2 ^ 32
     → (places : PlacesState) → AreAt script settings [] places → (slots : List SlotValue) → AreOpened script settings script.catalog script.sessions slots
-    → Stands script (first_world settings places slots)
+    → StandsOn script (first_world settings places slots)
 opens served_law script settings bound shards few_shards managers few_managers few places at slots h = record {
   bound = bound;
   shards = shards;
@@ -109,6 +110,11 @@ opens served_law script settings bound shards few_shards managers few_managers f
   commits = refl;
 }
 
+-- nothing was asked, so nobody ended or owes a notice
+settles : (script : Script) (settings : Settings) (places : PlacesState) (slots : List SlotValue) → StandsOn script (first_world settings places slots)
+    → Stands script (first_world settings places slots)
+settles script settings places slots on = record { on = on; endings = record { each = tt; prompt = tt; settled = λ node. refl } }
+
 -- by what the parts of a new world are
 pub opens_so : LogsAreServed → (script : Script) (settings : Settings) → IsBound script settings → 1 ≤ settings.shards → settings.shards ≤ 16 → 1 ≤ settings.managers
     → settings.managers ≤ 4 → length script.rows < 2 ^ 32
@@ -117,4 +123,5 @@ pub opens_so : LogsAreServed → (script : Script) (settings : Settings) → IsB
 opens_so served_law script settings bound shards few_shards managers few_managers few w e at h f g =
     subst (λ x. Stands script x)
     (sym (λ i. record { settings = e i; places = w.places; slots = w.slots; commits = f i; events = g i }))
-    (opens served_law script settings bound shards few_shards managers few_managers few w.places (subst (λ x. AreAt script x [] w.places) e at) w.slots h)
+    (settles script settings w.places w.slots
+    (opens served_law script settings bound shards few_shards managers few_managers few w.places (subst (λ x. AreAt script x [] w.places) e at) w.slots h))

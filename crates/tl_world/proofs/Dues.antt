@@ -1,7 +1,7 @@
 -- Whether a node is due, done, spent or over, by what its slot has.
 use Rattle.std.proofs.Common.{◌≡◌, ℕ, ◌+◌, Bool, true, false, List, [], ◌∷◌, ◌++◌, length, Option, Some, None, append-nil, refl, sym, ap, ◌∙◌, subst, arith}
-use Rattle.std.specs.Prelude.{◌||◌, nat_le}
-use Rattle.std.specs.List.{filter_map}
+use Rattle.std.specs.Prelude.{◌||◌, nat_le, not}
+use Rattle.std.specs.List.{filter_map, list_any}
 use Rattle.std.proofs.lemmas.Bool.Decides.{nat_tests}
 use Rattle.std.proofs.lemmas.List.{length-append}
 use Rattle.tl_base.specs.declared.place.Settings.{Settings}
@@ -18,19 +18,21 @@ use Rattle.tl_isolation.specs.declared.script.Vanish.{Vanish}
 use Rattle.tl_isolation.specs.Script.{answer_at, answers_by}
 use Rattle.tl_protocol.specs.Move.{is_empty}
 use Rattle.tl_journal.specs.declared.event.Event.{Event}
-use Rattle.tl_journal.specs.Journal.{entries_told, has_vanished, node_after, session_of}
+use Rattle.tl_journal.specs.Journal.{entries_told, has_vanished, is_post, node_after, session_of}
 use Rattle.tl_journal.specs.Law.{IsRun}
 use Rattle.tl_journal.specs.Node.{Node}
-use Rattle.tl_journal.specs.Schedule.{gave_none, is_done, is_due, is_over, latest, requests_of, vanish_of}
+use Rattle.tl_journal.specs.Schedule.{gave_none, is_answer, is_done, is_due, is_over, requests_of, vanish_of}
+use Rattle.tl_journal.proofs.InOrder.{latest_more}
 use Rattle.tl_journal.proofs.Journals.{spoken_at}
 use Rattle.tl_journal.proofs.Logs.{entries_more}
 use Rattle.tl_journal.proofs.Speaking.{SpeakIs}
 use Rattle.tl_node.specs.Seen.{seen}
 use Rattle.tl_node.specs.View.{NodeValue}
 use Rattle.tl_node.proofs.AlikeTold.{todo_seen}
-use Rattle.tl_world.specs.Stands.{HasSlot, IsNode, IsRunning, SlotValue, Stands, StandsAs, WorldValue, counted_by, slot_of}
+use Rattle.tl_world.specs.Stands.{HasSlot, IsNode, IsRunning, SlotValue, StandsOn, StandsAs, WorldValue, counted_by, slot_of}
 use Rattle.tl_world.specs.Told.{began_in, marked_in}
 use Rattle.tl_world.specs.Turns.{due_by}
+use Rattle.tl_world.proofs.Counting.{requests_grow}
 use Rattle.tl_world.proofs.Known.{has_session}
 use Rattle.tl_world.proofs.Others.{run_of}
 use Rattle.tl_world.proofs.Requests.{node_number}
@@ -88,7 +90,7 @@ even : {A : Type 0} (past todo : List A) (n : ℕ) → n ≡ length past → nat
 even past [] n e = let g : length (past ++ []) ≡ length past = ap length (append-nil past) in rw g (grind (arith, nat_tests))
 even past (x ∷ todo) n e = let g : length (past ++ x ∷ todo) ≡ length past + length (x ∷ todo) = length-append past (x ∷ todo) in rw g (grind (arith, nat_tests))
 
-module _ (script : Script) (w : WorldValue) (s : Stands script w) (number : ℕ) (slot : SlotValue) (v : NodeValue) (was : slot_of w.slots number ≡ Some slot)
+module _ (script : Script) (w : WorldValue) (s : StandsOn script w) (number : ℕ) (slot : SlotValue) (v : NodeValue) (was : slot_of w.slots number ≡ Some slot)
     (there : slot.node ≡ Some v) where
   -- whether it has answered all its statements
   pub done_is : is_done script w.events number ≡ is_empty v.node.todo
@@ -158,20 +160,16 @@ done_same script past e n number tids p m h = by (session_of script n) refl
     by None f = rw f refl
     by (Some session) f = rw f (ap (λ xs. nat_le (length session.statements) (length xs)) same)
 
-latest_is : (past : List Event) (e : Event) → latest (past ++ e ∷ []) ≡ Some e
-latest_is [] e = refl
-latest_is (x ∷ []) e = refl
-latest_is (x ∷ y ∷ past) e = latest_is (y ∷ past) e
-
--- and so the event gives no answer
-pub none_given : (past : List Event) (e : Event) (tids : List ℕ) (number : ℕ) (p : Reply) (m : Mark) → e.entries ≡ marked_in tids number p m
-    → gave_none (past ++ e ∷ []) ≡ true
-none_given past e tids number p m h = rw (latest_is past e) (rw h (by m))
+silent : (tids : List ℕ) (number : ℕ) (p : Reply) (m : Mark) → list_any is_answer (marked_in tids number p m) ≡ false
+silent tids number p (mark.Began tid) = by p
   where
-    began : (tid : ℕ) (p : Reply) → gave_none (record e { entries = began_in tids number tid p } ∷ []) ≡ true
-    began tid (reply.Manager (manager.Began other snapshot floor)) = refl
-    began tid p = refl
+    by : (p : Reply) → list_any is_answer (began_in tids number tid p) ≡ false
+    by (reply.Manager (manager.Began other snapshot floor)) = refl
+    by p = refl
+silent tids number p m = refl
 
-    by : (m : Mark) → gave_none (record e { entries = marked_in tids number p m } ∷ []) ≡ true
-    by (mark.Began tid) = began tid p
-    by m = refl
+-- and so the request gives no answer
+pub none_given : (past : List Event) (e : Event) (n number : ℕ) (tids : List ℕ) (p : Reply) (m : Mark) → e.node ≡ n → is_post e.request ≡ false
+    → e.entries ≡ marked_in tids number p m → gave_none n (past ++ e ∷ []) ≡ true
+none_given past e n number tids p m own post h =
+    rw (requests_grow past e n own post, latest_more (requests_of n past) e, h) (ap not (silent tids number p m))

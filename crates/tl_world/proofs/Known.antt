@@ -16,7 +16,7 @@ use Rattle.tl_ask.specs.Asked.{asked}
 use Rattle.tl_ask.specs.declared.asked.Asked.{Asked}
 use Rattle.tl_node.specs.View.{NodeValue, asked_by}
 use Rattle.tl_node.proofs.AlikeTold.{number_seen}
-use Rattle.tl_world.specs.Stands.{HasSlot, IsLeft, IsLeftIf, IsNode, IsRunning, IsRunningBut, IsSlot, SlotValue, Stands, StandsAs, StandsBut, WorldValue, slot_of}
+use Rattle.tl_world.specs.Stands.{HasSlot, IsLeft, IsLeftIf, IsNode, IsRunning, IsRunningBut, IsSlot, SlotValue, StandsOn, StandsAs, StandsBut, WorldValue, slot_of}
 use Rattle.tl_world.proofs.Others.{run_of}
 use Rattle.tl_world.proofs.Requests.{node_number}
 
@@ -69,7 +69,7 @@ pub but_left : (number : ℕ) (script : Script) (settings : Settings) (events : 
     → IsRunningBut number script settings events session v → IsLeft number v (node_after settings script events session)
 but_left number script settings events session v e h = subst (λ x. IsLeftIf x number script settings events session v) e h
 
-module _ (script : Script) (w : WorldValue) (s : Stands script w) (number : ℕ) where
+module _ (script : Script) (w : WorldValue) (s : StandsOn script w) (number : ℕ) where
   -- a running node has its number, and is to recover whom the law says
   running_left : (session : Session) (v : NodeValue) → session_of script session.node ≡ Some session → has_vanished w.events session.node ≡ false
       → IsRunning script w.settings w.events session v → IsLeft session.node v (node_after w.settings script w.events session)

@@ -14,6 +14,7 @@ pub mod Parts
 pub mod Requests
 pub mod Said
 pub mod Serving
+pub mod Settling
 pub mod Slots
 pub mod Spots
 pub mod Stand

@@ -16,6 +16,7 @@ use Rattle.tl_journal.specs.Journal.{entries_told, has_vanished, is_post, node_a
 use Rattle.tl_journal.specs.Law.{IsRun}
 use Rattle.tl_journal.specs.Node.{Node, owed_by}
 use Rattle.tl_journal.specs.Schedule.{vanish_of}
+use Rattle.tl_journal.specs.Strange.{is_stopped}
 use Rattle.tl_journal.proofs.Elsewhere.{after_other}
 use Rattle.tl_journal.proofs.Journals.{stood_at}
 use Rattle.tl_journal.proofs.Logs.{entries_more, node_more, state_more, vanished_more}
@@ -64,10 +65,10 @@ or_second true b e = refl
 or_second false b e = e
 
 module _ (script : Script) (settings : Settings) (past : List Event) (run : IsRun script settings past) (e : Event) where
-  vanished_other : (n : ℕ) → (e.node == n) ≡ false → has_vanished (past ++ e ∷ []) n ≡ has_vanished past n
+  pub vanished_other : (n : ℕ) → (e.node == n) ≡ false → has_vanished (past ++ e ∷ []) n ≡ has_vanished past n
   vanished_other n apart = vanished_more past e n ∙ or_second (has_vanished past n) (posts n e) (and_first (e.node == n) (is_post e.request) apart)
 
-  node_other : (session : Session) → session_of script session.node ≡ Some session → (e.node == session.node) ≡ false → has_vanished past session.node ≡ false
+  pub node_other : (session : Session) → session_of script session.node ≡ Some session → (e.node == session.node) ≡ false → has_vanished past session.node ≡ false
       → node_after settings script (past ++ e ∷ []) session ≡ node_after settings script past session
   node_other session is apart runs =
       node_more settings script past e session
@@ -85,6 +86,7 @@ module _ (script : Script) (settings : Settings) (past : List Event) (run : IsRu
       statements = h.1.statements;
       stands = subst (λ (n : Node). StandsFor settings script.catalog n v) (sym (node_other session is apart h.0)) h.1.stands;
       owed = h.1.owed ∙ ap (λ (n : Node). owed_by n.doing) (sym (node_other session is apart h.0));
+      goes_on = ap (λ (n : Node). is_stopped n.doing) (node_other session is apart h.0) ∙ h.1.goes_on;
     },
   )
 

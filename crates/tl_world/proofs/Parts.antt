@@ -14,7 +14,7 @@ use Rattle.tl_world.specs.declared.world.World.{World}
 use Rattle.tl_world.specs.Premises.{LogsAreServed}
 use Rattle.tl_world.specs.Seen.{HasEnded, HasGoneOn, HasRoom, HasRoomForNotice, HasTurned, IsThere, Runs, seen_as}
 use Rattle.tl_world.specs.Slot.{has_more, spent_by, spot}
-use Rattle.tl_world.specs.Stands.{SlotValue, Stands, StandsBut, WorldValue, slot_of}
+use Rattle.tl_world.specs.Stands.{SlotValue, Stands, StandsBut, StandsOn, WorldValue, slot_of}
 use Rattle.tl_world.specs.Turns.{Ends, Goes, TurnsTo, VanishesTo, due_by}
 use Rattle.tl_world.proofs.Known.{stands_but}
 use Rattle.tl_world.proofs.Serving.{index_same, slot_there, slot_was}
@@ -110,7 +110,7 @@ pub vanished_from : (old mid new : World) → seen_as mid ≡ seen_as old → (n
 unfolding HasEnded
 vanished_from old mid new same number at there slot is v e turned h logs script s =
     vanishes script (seen_as old) s number slot (slot_there old.slots.items number at there slot is) v e (seen_as new)
-    (ended_from old mid new same number ending_of.Vanished turned h logs script (stands_but script (seen_as old) s number)).1
+    (ended_from old mid new same number ending_of.Vanished turned h logs script (stands_but script (seen_as old) s.on number)).1
 
 -- ---- a turn of a node that has more to do
 
@@ -143,7 +143,7 @@ module _ (old : World) (number at : ℕ) (there : IsThere old number at) (more :
     pub turns_due : due_by slot.vanish slot.counted ≡ true → HasEnded number ending_of.Vanished old turned new → HasTurned number old turned new
     unfolding HasEnded HasTurned
     turns_due due h logs script s =
-        let e = h logs script (stands_but script (seen_as old) s number) in
+        let e = h logs script (stands_but script (seen_as old) s.on number) in
         subst (λ (t : Turned). Stands script (seen_as new) × TurnsTo script number (seen_as old) t (seen_as new)) (sym e.0)
         (ends_due script (seen_as old) s number slot was due (seen_as new) e.1)
 
@@ -151,25 +151,25 @@ module _ (old : World) (number at : ℕ) (there : IsThere old number at) (more :
         → HasTurned number old turned new
     unfolding HasEnded HasTurned
     turns_spent due budget is_budget spent h logs script s =
-        let e = h logs script (stands_but script (seen_as old) s number) in
+        let e = h logs script (stands_but script (seen_as old) s.on number) in
         subst (λ (t : Turned). Stands script (seen_as new) × TurnsTo script number (seen_as old) t (seen_as new)) (sym e.0)
         (ends_spent script (seen_as old) s number slot was has due (spent_parts slot budget old.terms.budget is_budget spent).1 (seen_as new) e.1)
 
     -- there was no memory to serve its request
-    pub turns_wanting : due_by slot.vanish slot.counted ≡ false → (mid : World) → seen_as mid ≡ seen_as old → HasEnded number ending_of.OutOfMemory mid turned new
+    pub turns_wanting : Runs old.terms slot → (mid : World) → seen_as mid ≡ seen_as old → HasEnded number ending_of.OutOfMemory mid turned new
         → HasTurned number old turned new
     unfolding HasEnded HasTurned
-    turns_wanting due mid same h logs script s =
-        let e = ended_from old mid new same number ending_of.OutOfMemory turned h logs script (stands_but script (seen_as old) s number) in
+    turns_wanting runs mid same h logs script s =
+        let e = ended_from old mid new same number ending_of.OutOfMemory turned h logs script (stands_but script (seen_as old) s.on number) in
         subst (λ (t : Turned). Stands script (seen_as new) × TurnsTo script number (seen_as old) t (seen_as new)) (sym e.0)
-        (ends_wanting script (seen_as old) s number slot was has due (seen_as new) e.1)
+        (ends_wanting script (seen_as old) s number slot was has runs.due runs.made (seen_as new) e.1)
 
     -- it has made its request
     pub turns_on : Runs old.terms slot → (mid : World) (wants : Bool)
-        → (LogsAreServed → (script : Script) → Stands script (seen_as old) → Goes script number (seen_as old) wants (seen_as mid))
+        → (LogsAreServed → (script : Script) → StandsOn script (seen_as old) → Goes script number (seen_as old) wants (seen_as mid))
         → HasGoneOn number wants mid turned new → HasTurned number old turned new
     unfolding HasGoneOn HasTurned
-    turns_on runs mid wants made h logs script s = h logs script (seen_as old) s slot was runs (made logs script s)
+    turns_on runs mid wants made h logs script s = h logs script (seen_as old) s slot was runs (made logs script s.on)
 
 -- ---- behind its request
 

@@ -1,6 +1,7 @@
 -- One request more: the event that it is, and the node after it.
 use Rattle.std.proofs.Common.{◌≡◌, ◌⊎◌, ℕ, ◌+◌, ◌<◌, Bool, true, false, List, [], ◌∷◌, ◌++◌, length, Some, append-nil, refl, sym, ap, ◌∙◌, subst, inl, inr}
 use Rattle.std.specs.Prelude.{◌^◌, ◌&&◌, not, if◌then◌else◌}
+use Rattle.std.proofs.lemmas.Bool.{or_parts}
 use Rattle.tl_base.specs.Along.{Along-append}
 use Rattle.tl_base.specs.declared.place.Settings.{Settings}
 use Rattle.tl_descriptor.specs.Tids.{TidSet}
@@ -32,7 +33,7 @@ use Rattle.tl_journal.specs.Law.{AreFirst, IsRun}
 use Rattle.tl_journal.specs.Memory.{cut_short, has_said, is_cut, unsaid}
 use Rattle.tl_journal.specs.Node.{Doing, Inside, Node, owed_by}
 use Rattle.tl_journal.specs.Says.{says_at}
-use Rattle.tl_journal.specs.Strange.{is_strange}
+use Rattle.tl_journal.specs.Strange.{is_odd_for, is_stopped, is_strange}
 use Rattle.tl_journal.specs.Takes.{MayMean, takes}
 use Rattle.tl_journal.proofs.Elsewhere.{after_cut, after_own, said_same}
 use Rattle.tl_journal.proofs.FirstCommits.{first_commits}
@@ -219,8 +220,15 @@ module _ (script : Script) (settings : Settings) (past : List Event) (run : IsRu
     some_run : IsRun script settings (past ++ event some_event.0 ∷ [])
     some_run = grows (event some_event.0) makes.few (makes.served some_event.0) some_event.1
 
+    sane_for : (told : Answer) → is_strange settings script.catalog node (heard ask p) told ≡ false
+    sane_for told = nothing_strange script settings past (event some_event.0) [] some_run makes.rows (no_post some_event.0) session makes.is_session ask makes.asked told
+
     pub sane : is_strange settings script.catalog node (heard ask p) answer.Begun ≡ false
-    sane = nothing_strange script settings past (event some_event.0) [] some_run makes.rows (no_post some_event.0) session makes.is_session ask makes.asked answer.Begun
+    sane = sane_for answer.Begun
+
+    -- nor does the node stop at it
+    never_stops : (told : Answer) → is_stopped (takes settings script.catalog node (heard ask p) told).doing ≡ false
+    never_stops told = (or_parts (is_stopped (takes settings script.catalog node (heard ask p) told).doing) (is_odd_for node.doing (heard ask p)) (sane_for told)).0
 
     -- of the commits so far the snapshot of a transaction that begins has the first ones and no others
     pub first : (tid : ℕ) (snapshot floor : TidSet) → p ≡ reply.Manager (manager.Began tid snapshot floor) → AreFirst snapshot commits
@@ -245,9 +253,9 @@ module _ (script : Script) (settings : Settings) (past : List Event) (run : IsRu
     abbrev pub said_entry : Mark → Said → Entry
     said_entry m said = said_so node.number (statement_in node.todo) m said
 
-    -- the code stands for the node of the law, and is to recover whom that is to recover
+    -- the code stands for the node of the law, and is to recover whom that is to recover; it wanted no memory
     abbrev pub StandsSo : Node → NodeValue → Type 0
-    StandsSo n v = StandsFor settings script.catalog n v × (owed_by v.node.doing ≡ owed_by n.doing)
+    StandsSo n v = StandsFor settings script.catalog n v × (owed_by v.node.doing ≡ owed_by n.doing) × (is_stopped n.doing ≡ false)
 
     -- the event is one of the law, and so stands the node after it
     abbrev pub Happens : (after : NodeValue) (m : Mark) (r : Rest) → Type 0
@@ -271,7 +279,7 @@ module _ (script : Script) (settings : Settings) (past : List Event) (run : IsRu
         → StandsSo (node_after settings script (past ++ event entries ∷ []) session) v
     stands_then entries told v a tells s =
         subst (λ n. StandsSo n v) (led_on entries told a tells)
-        (s, ap (λ (n : Node). owed_by n.doing) s.node_is ∙ owes_after settings script.catalog node ask (heard ask p) told makes.asked)
+        (s, ap (λ (n : Node). owed_by n.doing) s.node_is ∙ owes_after settings script.catalog node ask (heard ask p) told makes.asked, never_stops told)
 
     long_so : (m : Mark) (said : Said) → is_answered m ≡ false → is_long (said_entry m said) ≡ takes_memory (statement_in node.todo)
     long_so mark.Answered said f = cc

@@ -24,7 +24,7 @@ use Rattle.tl_world.specs.declared.request.Served.{Served}
 use Rattle.tl_world.specs.Hearing.{Hears, SlotServed}
 use Rattle.tl_world.specs.Premises.{LogsAreServed}
 use Rattle.tl_world.specs.Slot.{spot}
-use Rattle.tl_world.specs.Stands.{SlotValue, Stands, StandsBut, WorldValue, ended, slot_of, with_slot}
+use Rattle.tl_world.specs.Stands.{SlotValue, StandsOn, StandsBut, WorldValue, ended, slot_of, with_slot}
 use Rattle.tl_world.specs.Turns.{Ends, Goes, due_by}
 use Rattle.tl_world.proofs.Laws.{own_suits_runs}
 use Rattle.tl_world.proofs.Spots.{StandsThere, spot_is}
@@ -135,7 +135,7 @@ module _ (slots : List SlotValue) (commits : List ℕ) (number at : ℕ) (there 
       slots_counted =
           set_twice slots at heard new ∙ slot_put slots number at there new new_own ∙ ap (λ x. with_slot x slots) new_heard
 
-pub request_made : LogsAreServed → (script : Script) (w : WorldValue) → Stands script w → length w.events + 1 < 2 ^ 32 → (number at : ℕ)
+pub request_made : LogsAreServed → (script : Script) (w : WorldValue) → StandsOn script w → length w.events + 1 < 2 ^ 32 → (number at : ℕ)
     → (there : spot 0 w.slots number ≡ Some at) → (first : SlotValue) → first ≡ slice_index_or w.slots at first → (call : Served) (q : PlacesState)
     → SlotServed first w.places call q → (slot : SlotValue) → slot ≡ slice_index_or w.slots at slot → (heard : SlotValue) (commits : List ℕ) (entries : List Entry) (wants : Bool)
     → ((v : NodeValue) → slot.node ≡ Some v → Hears v slot call.reply w.commits heard commits entries wants) → (again : SlotValue)

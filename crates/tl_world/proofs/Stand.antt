@@ -37,7 +37,7 @@ use Rattle.tl_node.specs.declared.told.Rest.{Rest}
 use Rattle.tl_node.specs.declared.told.Rest.TheVariants as rest
 use Rattle.tl_node.proofs.AlikeTold.{todo_seen, told_of}
 use Rattle.tl_world.specs.Premises.{LogsAreServed, OwnSuitsRuns}
-use Rattle.tl_world.specs.Stands.{HasServed, IsLeft, IsNode, IsRunning, IsRunningBut, IsSlot, SlotValue, Stands, StandsBut, WorldValue, counted_more, ended, notice_event, request_event, requested, slot_of, world_with}
+use Rattle.tl_world.specs.Stands.{HasServed, IsLeft, IsNode, IsRunning, IsRunningBut, IsSlot, SlotValue, StandsOn, StandsBut, WorldValue, counted_more, ended, notice_event, request_event, requested, slot_of, world_with}
 use Rattle.tl_world.specs.Told.{is_answered, marked_in, takes_memory}
 use Rattle.tl_world.proofs.Commits.{marked_is}
 use Rattle.tl_world.proofs.Counting.{counted_stays, counts_more, made_more, requests_stay}
@@ -56,7 +56,7 @@ there_is P events n o v h e = subst (λ x. IsNode P events n x) e h
 
 -- ---- a request
 
-module _ (served_law : LogsAreServed) (own_law : OwnSuitsRuns) (script : Script) (w : WorldValue) (s : Stands script w) (few : length w.events + 1 < 2 ^ 32)
+module _ (served_law : LogsAreServed) (own_law : OwnSuitsRuns) (script : Script) (w : WorldValue) (s : StandsOn script w) (few : length w.events + 1 < 2 ^ 32)
     (number : ℕ) (slot : SlotValue) (v : NodeValue) (was : slot_of w.slots number ≡ Some slot) (there : slot.node ≡ Some v) (p : Reply) (q : PlacesState) where
   abbrev k : HasSession (IsRunning script w.settings w.events) script w number slot
   k = has_session (IsRunning script w.settings w.events) script w s number slot was
@@ -125,7 +125,7 @@ module _ (served_law : LogsAreServed) (own_law : OwnSuitsRuns) (script : Script)
     -- where the node goes on
     goes_on : (entries : List Entry) (after : NodeValue) → IsEvent script w.settings w.events (event entries)
         → IsRunning script w.settings (w.events ++ event entries ∷ []) session after
-        → Stands script (world_with w (requested slot after (written ask) p) q (event entries))
+        → StandsOn script (world_with w (requested slot after (written ask) p) q (event entries))
     goes_on entries after is h =
         stands_more script w (IsRunning script w.settings w.events) (IsRunning script w.settings (w.events ++ event entries ∷ [])) s (event entries) session
         (requested slot after (written ask) p) slot q (λ other x apart r. r) (λ other x apart r. r) k.is_session was_so slot_is
@@ -152,12 +152,12 @@ module _ (served_law : LogsAreServed) (own_law : OwnSuitsRuns) (script : Script)
 
     -- the node goes on, and says nothing
     goes : (after : NodeValue) (m : Mark) → IsTold v p after m rest.Going → after.session ≡ v.session
-        → Stands script (world_with w (requested slot after (written ask) p) q (event (marked_in w.commits number p m)))
+        → StandsOn script (world_with w (requested slot after (written ask) p) q (event (marked_in w.commits number p m)))
     goes after m t same =
-        subst (λ es. Stands script (world_with w (requested slot after (written ask) p) q (event es))) (marks m)
+        subst (λ es. StandsOn script (world_with w (requested slot after (written ask) p) q (event es))) (marks m)
         (let h = so after m rest.Going t in
         goes_on (marked (state_after (setup_of script w.settings) (entries_told w.events)).commits node.number p m) after h.0
-        (record { statements = same ∙ known.1.statements; stands = h.1.0; owed = h.1.1 }))
+        (record { statements = same ∙ known.1.statements; stands = h.1.0; owed = h.1.1; goes_on = h.1.2 }))
 
     todo_is : statement_in v.node.todo ≡ statement_in node.todo
     todo_is = ap (λ (n : Node). statement_in n.todo) known.1.stands.node_is ∙ ap statement_in (todo_seen w.settings script.catalog node)
@@ -173,13 +173,13 @@ module _ (served_law : LogsAreServed) (own_law : OwnSuitsRuns) (script : Script)
 
     -- it says this
     says : (after : NodeValue) (m : Mark) (said : Said) → IsTold v p after m (rest.Said said) → after.session ≡ v.session
-        → Stands script (world_with w (requested slot after (written ask) p) q (event (marked_in w.commits number p m ++ said_so number (statement_in v.node.todo) m said ∷ [])))
+        → StandsOn script (world_with w (requested slot after (written ask) p) q (event (marked_in w.commits number p m ++ said_so number (statement_in v.node.todo) m said ∷ [])))
     says after m said t same =
-        subst (λ es. Stands script (world_with w (requested slot after (written ask) p) q (event es))) (said_is m said)
+        subst (λ es. StandsOn script (world_with w (requested slot after (written ask) p) q (event es))) (said_is m said)
         (let h = so after m (rest.Said said) t in
         goes_on
         (marked (state_after (setup_of script w.settings) (entries_told w.events)).commits node.number p m ++ said_so node.number (statement_in node.todo) m said ∷ []) after h.0
-        (record { statements = same ∙ known.1.statements; stands = h.1.0; owed = h.1.1 }))
+        (record { statements = same ∙ known.1.statements; stands = h.1.0; owed = h.1.1; goes_on = h.1.2 }))
 
     -- it wanted memory
     wants : (after : NodeValue) (m : Mark) → IsTold v p after m rest.NoMemory
@@ -205,7 +205,7 @@ module _ (served_law : LogsAreServed) (own_law : OwnSuitsRuns) (script : Script)
 
 -- ---- what the driver has of it
 
-module _ (served_law : LogsAreServed) (own_law : OwnSuitsRuns) (script : Script) (w : WorldValue) (s : Stands script w) (few : length w.events + 1 < 2 ^ 32)
+module _ (served_law : LogsAreServed) (own_law : OwnSuitsRuns) (script : Script) (w : WorldValue) (s : StandsOn script w) (few : length w.events + 1 < 2 ^ 32)
     (number : ℕ) (slot : SlotValue) (v : NodeValue) (a : Asked) (p : Reply) (q : PlacesState) (h : HasServed w number slot v a p q) where
   abbrev the_session : HasSession (IsRunning script w.settings w.events) script w number slot
   the_session = has_session (IsRunning script w.settings w.events) script w s number slot h.was
@@ -225,18 +225,18 @@ module _ (served_law : LogsAreServed) (own_law : OwnSuitsRuns) (script : Script)
   served_so = subst (λ (x : Asked). HaveServed x.place x.request p w.places q) (sym the_ask.2) h.served
 
   pub request_goes : (after : NodeValue) (m : Mark) → IsTold v p after m rest.Going → after.session ≡ v.session
-      → Stands script (world_with w (requested slot after a.request p) q (request_event number a p (marked_in w.commits number p m)))
+      → StandsOn script (world_with w (requested slot after a.request p) q (request_event number a p (marked_in w.commits number p m)))
   request_goes after m t same =
-      subst (λ (x : Asked). Stands script (world_with w (requested slot after x.request p) q (request_event number x p (marked_in w.commits number p m)))) the_ask.2
+      subst (λ (x : Asked). StandsOn script (world_with w (requested slot after x.request p) q (request_event number x p (marked_in w.commits number p m)))) the_ask.2
       (goes served_law own_law script w s few number slot v h.was h.there p q the_ask.0 the_ask.1 call_so served_so after m t same)
 
   pub request_says : (after : NodeValue) (m : Mark) (said : Said) → IsTold v p after m (rest.Said said) → after.session ≡ v.session
-      → Stands script
+      → StandsOn script
       (world_with w (requested slot after a.request p) q (request_event number a p (marked_in w.commits number p m ++ said_so number (statement_in v.node.todo) m said ∷ [])))
   request_says after m said t same =
       subst
       (λ (x : Asked).
-      Stands script
+      StandsOn script
       (world_with w (requested slot after x.request p) q (request_event number x p (marked_in w.commits number p m ++ said_so number (statement_in v.node.todo) m said ∷ []))))
       the_ask.2
       (says served_law own_law script w s few number slot v h.was h.there p q the_ask.0 the_ask.1 call_so served_so after m said t same)
@@ -287,7 +287,7 @@ module _ (served_law : LogsAreServed) (script : Script) (w : WorldValue) (number
 
   pub post_stands : IsCall (place.Manager (home_of w.settings number)) (request_of.Manager notice) p
       → HaveServed (place.Manager (home_of w.settings number)) (request_of.Manager notice) p w.places q
-      → Stands script (world_with w (ended slot) q posted)
+      → StandsOn script (world_with w (ended slot) q posted)
   post_stands call served =
       let at : AreAt script w.settings (w.events ++ posted ∷ []) q = served script w.settings w.events number (entry.Vanished number ending ∷ []) s.places in
       let is : IsPost script w.settings w.events posted = record {

@@ -1,5 +1,5 @@
 -- A request and a death notice, as the driver's parts make them.
-use Rattle.std.proofs.Common.{◌≡◌, ℕ, ◌+◌, ◌<◌, Bool, true, List, [], ◌∷◌, ◌++◌, length, Some, append-nil, refl, sym, ap, ◌∙◌, subst, inl, inr}
+use Rattle.std.proofs.Common.{◌≡◌, ℕ, ◌+◌, ◌<◌, Bool, true, false, List, [], ◌∷◌, ◌++◌, length, Some, append-nil, refl, sym, ap, ◌∙◌, subst, inl, inr}
 use Rattle.std.specs.Prelude.{◌^◌}
 use Rattle.tl_base.specs.declared.place.PlaceId.TheVariants as place
 use Rattle.tl_manager.specs.declared.mark.Mark.{Mark}
@@ -16,7 +16,7 @@ use Rattle.tl_isolation.specs.declared.entry.Said.{Said}
 use Rattle.tl_isolation.specs.declared.script.Script.{Script}
 use Rattle.tl_journal.specs.declared.event.Event.{Event}
 use Rattle.tl_journal.specs.Bytes.{home_of}
-use Rattle.tl_journal.specs.Journal.{IsCall}
+use Rattle.tl_journal.specs.Journal.{IsCall, is_post}
 use Rattle.tl_journal.specs.Node.{owed_by}
 use Rattle.tl_places.specs.Places.{HaveServed, PlacesState}
 use Rattle.tl_ask.specs.declared.asked.Asked.{Asked}
@@ -27,7 +27,7 @@ use Rattle.tl_node.specs.declared.told.Rest.TheVariants as rest
 use Rattle.tl_world.specs.declared.request.Served.{Served}
 use Rattle.tl_world.specs.Hearing.{Hears, Tells, committed_so}
 use Rattle.tl_world.specs.Premises.{LogsAreServed, OwnSuitsRuns}
-use Rattle.tl_world.specs.Stands.{HasServed, SlotValue, Stands, StandsBut, WorldValue, committed_by, committed_in, counted_more, ended, notice_event, requested, slot_of, with_slot, world_with}
+use Rattle.tl_world.specs.Stands.{HasServed, SlotValue, StandsOn, StandsBut, WorldValue, committed_by, committed_in, counted_more, ended, notice_event, requested, slot_of, with_slot, world_with}
 use Rattle.tl_world.specs.Told.{began_in, marked_in}
 use Rattle.tl_world.specs.Turns.{Ends, Goes, GoesOn}
 use Rattle.tl_world.proofs.Dues.{done_same, none_given}
@@ -57,7 +57,7 @@ counted_slot slot s = record slot { made = slot.made + 1; counted = counted_more
 abbrev pub served_event : ℕ → Served → List Entry → Event
 served_event number s entries = record { node = number; place = s.place; request = s.request; reply = s.reply; entries = entries }
 
-module _ (served_law : LogsAreServed) (own_law : OwnSuitsRuns) (script : Script) (w : WorldValue) (s : Stands script w) (few : length w.events + 1 < 2 ^ 32)
+module _ (served_law : LogsAreServed) (own_law : OwnSuitsRuns) (script : Script) (w : WorldValue) (s : StandsOn script w) (few : length w.events + 1 < 2 ^ 32)
     (number : ℕ) (slot : SlotValue) (was : slot_of w.slots number ≡ Some slot) (own : slot.number ≡ number) (call : Served) (q : PlacesState)
     (v : NodeValue) (there : slot.node ≡ Some v) (asks_so : v.ask ≡ Some (record { place = call.place; request = call.request }))
     (is_call : IsCall call.place call.request call.reply) (served : HaveServed call.place call.request call.reply w.places q) where
@@ -70,16 +70,19 @@ module _ (served_law : LogsAreServed) (own_law : OwnSuitsRuns) (script : Script)
   abbrev new_world : NodeValue → List Entry → WorldValue
   new_world after entries = world_with w (requested slot after call.request call.reply) q (served_event number call entries)
 
+  is_request : is_post call.request ≡ false
+  is_request = request_is served_law own_law script w s few number slot v asks_it call.reply q has_served
+
   going : (after : NodeValue) (m : Mark) (r : Rest) (wants : Bool) (entries : List Entry) → IsTold v call.reply after m r → after.session ≡ v.session
       → Tells number (statement_in v.node.todo) m r (marked_in w.commits number call.reply m) wants entries
       → GoesOn script number w wants (new_world after entries) × (committed_in entries ≡ committed_so m)
   going after m rest.Going wants entries t same h =
       subst (λ b. GoesOn script number w b (new_world after entries) × (committed_in entries ≡ committed_so m)) (sym h.0)
-      (subst (λ es. Stands script (new_world after es) × (committed_in es ≡ committed_so m)) (sym h.1)
+      (subst (λ es. StandsOn script (new_world after es) × (committed_in es ≡ committed_so m)) (sym h.1)
       (request_goes served_law own_law script w s few number slot v asks_it call.reply q has_served after m t same, committed_is w.commits number call.reply m))
   going after m (rest.Said said) wants entries t same (inl h) =
       subst (λ b. GoesOn script number w b (new_world after entries) × (committed_in entries ≡ committed_so m)) (sym h.0)
-      (subst (λ es. Stands script (new_world after es) × (committed_in es ≡ committed_so m)) (sym h.1) (
+      (subst (λ es. StandsOn script (new_world after es) × (committed_in es ≡ committed_so m)) (sym h.1) (
         request_says served_law own_law script w s few number slot v asks_it call.reply q has_served after m said t same,
         committed_behind (marked_in w.commits number call.reply m) (said_so number (statement_in v.node.todo) m said) (said_commits number (statement_in v.node.todo) m said)
             ∙ committed_is w.commits number call.reply m,
@@ -90,7 +93,7 @@ module _ (served_law : LogsAreServed) (own_law : OwnSuitsRuns) (script : Script)
         (
           request_untold served_law own_law script w s few number slot v asks_it call.reply q has_served after m said h.1 h.2 t,
           done_same script w.events (served_event number call (marked_in w.commits number call.reply m)) number number w.commits call.reply m refl,
-          none_given w.events (served_event number call (marked_in w.commits number call.reply m)) w.commits number call.reply m refl,
+          none_given w.events (served_event number call (marked_in w.commits number call.reply m)) number number w.commits call.reply m refl is_request refl,
         ),
         committed_is w.commits number call.reply m,
       ))
@@ -102,7 +105,7 @@ module _ (served_law : LogsAreServed) (own_law : OwnSuitsRuns) (script : Script)
         (
           request_wants served_law own_law script w s few number slot v asks_it call.reply q has_served after m t,
           done_same script w.events (served_event number call (marked_in w.commits number call.reply m)) number number w.commits call.reply m refl,
-          none_given w.events (served_event number call (marked_in w.commits number call.reply m)) w.commits number call.reply m refl,
+          none_given w.events (served_event number call (marked_in w.commits number call.reply m)) number number w.commits call.reply m refl is_request refl,
         ),
         committed_is w.commits number call.reply m,
       ))
@@ -124,7 +127,7 @@ module _ (served_law : LogsAreServed) (own_law : OwnSuitsRuns) (script : Script)
         event = served_event number call entries;
         events = refl;
         settings = refl;
-        request = record { of_node = refl; request = request_is served_law own_law script w s few number slot v asks_it call.reply q has_served };
+        request = record { of_node = refl; request = is_request };
         on = subst
             (λ xs. GoesOn script number w wants (record { settings = w.settings; places = q; slots = xs; commits = commits; events = w.events ++ served_event number call entries ∷ [] }))
             slots_are
@@ -163,7 +166,7 @@ ends_of served_law script w number s few slot v was there q ending served slots 
       notice = record { of_node = refl; notice = refl; entries = refl };
       stands = subst
           (λ xs.
-          Stands script
+          StandsOn script
           (record {
             settings = w.settings;
             places = q;
@@ -174,7 +177,7 @@ ends_of served_law script w number s few slot v was there q ending served slots 
           (sym e)
           (subst
           (λ cs.
-          Stands script
+          StandsOn script
           (record {
             settings = w.settings;
             places = q;

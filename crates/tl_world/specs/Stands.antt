@@ -1,6 +1,8 @@
 -- What is always so of a world: its events are those of a trace of the script, its places have served them, and its nodes
--- are where they lead.
-use Rattle.std.specs.Prelude.{◌≡◌, ◌<◌, ◌≤◌, ℕ, ◌+◌, ◌^◌, ◌==◌, Bool, true, false, List, [], ◌∷◌, ◌++◌, Option, Some, None, find, flat_map, length, map, if◌then◌else◌}
+-- are where they lead; each request was made within the budget and before the count, each node ended as it had to, unless it
+-- was let vanish, and none owes its death notice.
+use Rattle.std.specs.Prelude.{◌≡◌, ◌<◌, ◌≤◌, ◌⊎◌, ℕ, ◌+◌, ◌^◌, ◌==◌, Bool, true, false, List, [], ◌∷◌, ◌++◌, Option, Some, None, find, flat_map, length, map, if◌then◌else◌}
+use Rattle.tl_base.specs.Along.{Along}
 use Rattle.tl_base.specs.declared.place.Settings.{Settings}
 use Rattle.tl_base.specs.declared.place.PlaceId.TheVariants as place
 use Rattle.tl_manager.specs.declared.request.ManagerRequest.{ManagerRequest}
@@ -8,6 +10,7 @@ use Rattle.tl_manager.specs.declared.request.Request.{Request}
 use Rattle.tl_manager.specs.declared.request.Request.TheVariants as request_of
 use Rattle.tl_manager.specs.declared.request.Reply.{Reply}
 use Rattle.tl_isolation.specs.declared.entry.Ending.{Ending}
+use Rattle.tl_isolation.specs.declared.entry.Ending.TheVariants as ending_of
 use Rattle.tl_isolation.specs.declared.entry.Entry.{Entry}
 use Rattle.tl_isolation.specs.declared.entry.Entry.TheVariants as entry
 use Rattle.tl_isolation.specs.declared.script.Script.{Script}
@@ -19,10 +22,11 @@ use Rattle.tl_isolation.specs.Script.{setup_of}
 use Rattle.tl_journal.specs.declared.event.Event.{Event}
 use Rattle.tl_journal.specs.Binding.{IsBound}
 use Rattle.tl_journal.specs.Bytes.{home_of}
-use Rattle.tl_journal.specs.Journal.{IsCall, entries_told, has_vanished, node_after, session_of}
+use Rattle.tl_journal.specs.Journal.{IsCall, entries_told, has_vanished, is_post, node_after, session_of}
 use Rattle.tl_journal.specs.Node.{Node, owed_by}
 use Rattle.tl_journal.specs.Run.{IsTrace}
-use Rattle.tl_journal.specs.Schedule.{counted, counts, requests_of, vanish_of}
+use Rattle.tl_journal.specs.Schedule.{EndsSo, MayAsk, counted, counts, is_due, owes_notice, owing, requests_of, vanish_of}
+use Rattle.tl_journal.specs.Strange.{is_stopped}
 use Rattle.tl_places.specs.Places.{AreAt, HaveServed, PlacesState}
 use Rattle.tl_ask.specs.declared.asked.Asked.{Asked}
 use Rattle.tl_node.specs.View.{NodeValue, StandsFor}
@@ -44,12 +48,13 @@ abbrev pub counted_by : Option Vanish → List Event → ℕ
 counted_by None events = 0
 counted_by (Some v) events = counted v events
 
--- a running node runs its session, stands for the node of the law that the events lead to, and is to recover whom that is to
--- recover
+-- a running node runs its session, stands for the node of the law that the events lead to, is to recover whom that is to
+-- recover, and wanted no memory
 pub record IsRunning (script : Script) (settings : Settings) (events : List Event) (session : Session) (v : NodeValue) : Type 0 where
   pub statements : v.session ≡ session.statements
   pub stands : StandsFor settings script.catalog (node_after settings script events session) v
   pub owed : owed_by v.node.doing ≡ owed_by (node_after settings script events session).doing
+  pub goes_on : is_stopped (node_after settings script events session).doing ≡ false
 
 -- a slot has its node until that vanishes, of which this holds
 abbrev pub IsNode : (NodeValue → Type 0) → List Event → ℕ → Option NodeValue → Type 0
@@ -86,8 +91,37 @@ pub record StandsAs (R : Session → NodeValue → Type 0) (script : Script) (w 
   pub slots : (node : ℕ) → HasSlot R script w.events (session_of script node) (slot_of w.slots node)
   pub commits : w.commits ≡ map (λ (c : Commit). c.tid) (state_after (setup_of script w.settings) (entries_told w.events)).commits
 
-abbrev pub Stands : Script → WorldValue → Type 0
-Stands script w = StandsAs (IsRunning script w.settings w.events) script w
+-- all its nodes run
+abbrev pub StandsOn : Script → WorldValue → Type 0
+StandsOn script w = StandsAs (IsRunning script w.settings w.events) script w
+
+-- ---- how its nodes ended
+
+-- as they had to, or as vanished where a node that owed no notice was let vanish
+abbrev pub MayEnd : Script → Settings → List Event → ℕ → Ending → Type 0
+MayEnd script settings past node ending_of.Vanished = (is_due script past node ≡ true) ⊎ (owes_notice script settings past node ≡ false)
+MayEnd script settings past node ending = EndsSo script settings past node ending
+
+-- a death notice has such an ending, and a request was made within the budget and before the count
+abbrev pub MayStand : Script → Settings → List Event → Event → Type 0
+MayStand script settings past e =
+    ((is_post e.request ≡ true) × ((ending : Ending) × (e.entries ≡ entry.Vanished e.node ending ∷ []) × MayEnd script settings past e.node ending))
+    ⊎ ((is_post e.request ≡ false) × MayAsk script settings past e.node)
+
+-- a notice that is owed comes before anything else
+abbrev pub IsPrompt : Script → Settings → List Event → Event → Type 0
+IsPrompt script settings past e = (node : ℕ) → owing script settings past ≡ Some node → (e.node ≡ node) × (is_post e.request ≡ true)
+
+-- so it is of each event, and after the last one no node owes its notice
+pub record EndingsStand (script : Script) (settings : Settings) (events : List Event) : Type 0 where
+  pub each : Along (MayStand script settings) [] events
+  pub prompt : Along (IsPrompt script settings) [] events
+  pub settled : (node : ℕ) → owes_notice script settings events node ≡ false
+
+-- the world between two calls
+pub record Stands (script : Script) (w : WorldValue) : Type 0 where
+  pub on : StandsOn script w
+  pub endings : EndingsStand script w.settings w.events
 
 -- ---- a node that is about to vanish
 

@@ -8,7 +8,7 @@ ghost use Rattle.tl_journal.specs.Journal.{entries_told};
 ghost use Rattle.tl_journal.specs.Schedule.{is_over};
 ghost use Rattle.tl_world.specs.Seen.{HasEnded, HasGoneOn, HasRoom, HasRoomForNotice, HasTurned, IsThere, Runs, seen_as};
 ghost use Rattle.tl_world.specs.Slot.{has_more};
-ghost use Rattle.tl_world.specs.Stands.{Stands};
+ghost use Rattle.tl_world.specs.Stands.{Stands, StandsOn};
 ghost use Rattle.tl_world.specs.Turns.{Goes, TurnsTo, VanishesTo};
 ghost use Rattle.tl_world.specs.Premises.{LogsAreServed};
 ghost use Rattle.tl_world.specs.declared.slot.Slot.{Slot as TheSlot};
@@ -211,7 +211,7 @@ impl World {
         requires there { IsThere self.old number at }
         requires room { HasRoom self.old }
         requires runs { (d : TheSlot) → Runs self.old.terms (slice_index_or self.old.slots.items at d) }
-        ensures went { MatchOption result (seen_as self.new ≡ seen_as self.old) (λ wants. LogsAreServed → (script : TheScript) → Stands script (seen_as self.old) → Goes script number (seen_as self.old) wants (seen_as self.new)) }
+        ensures went { MatchOption result (seen_as self.new ≡ seen_as self.old) (λ wants. LogsAreServed → (script : TheScript) → StandsOn script (seen_as self.old) → Goes script number (seen_as self.old) wants (seen_as self.new)) }
         ensures there { IsThere self.new number at }
         ensures room { HasRoomForNotice self.new }
     {

@@ -66,5 +66,8 @@ returns-in-Some c =
 
 pub returns-in-None : goal.returns-in-None
 returns-in-None c =
-    turns_wanting c.args.self.now c.args.node c.args.at c.requires.there c.requires.more c.index-2.result.now c.index-2.ensures c.end-in-None.result c.end-in-None.new.self
-    (not_due (goal.at.returns-in-None c).After-is_spent) c.request.new.self c.in-None.ensures.went c.end-in-None.ensures
+    let slot = c.index-2.result.now in
+    turns_wanting c.args.self.now c.args.node c.args.at c.requires.there c.requires.more slot c.index-2.ensures c.end-in-None.result c.end-in-None.new.self
+    (runs_so c.args.self.now c.args.node c.args.at c.requires.there c.requires.more slot c.index-2.ensures (not_due (goal.at.returns-in-None c).After-is_spent)
+    c.budget.result c.budget.ensures (omega arith) (sym c.is_spent.ensures ∙ c.if-is_spent.false))
+    c.request.new.self c.in-None.ensures.went c.end-in-None.ensures

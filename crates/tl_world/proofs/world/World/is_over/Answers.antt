@@ -17,8 +17,8 @@ returns-in-Some c = λ script s.
     let slots = c.args.self.now.slots.items in
     let slot = c.index.result.now in
     ap not c.has_more.ensures
-    ∙ sym (over_so script (seen_as c.args.self.now) s c.args.node slot (slot_there slots c.args.node c.in-Some.at (spot_there c.args.self.now.slots.items c.as_slice.result.now c.as_slice.ensures.value c.args.node c.in-Some.at c.in-Some.ensures) slot c.index.ensures))
+    ∙ sym (over_so script (seen_as c.args.self.now) s.on c.args.node slot (slot_there slots c.args.node c.in-Some.at (spot_there c.args.self.now.slots.items c.as_slice.result.now c.as_slice.ensures.value c.args.node c.in-Some.at c.in-Some.ensures) slot c.index.ensures))
 
 pub returns-in-None : goal.returns-in-None
 returns-in-None c = λ script s.
-    sym (none_so script (seen_as c.args.self.now) s c.args.node (spot_none c.args.self.now.slots.items c.args.node 0 (spot_gone c.args.self.now.slots.items c.as_slice.result.now c.as_slice.ensures.value c.args.node c.in-None.ensures)))
+    sym (none_so script (seen_as c.args.self.now) s.on c.args.node (spot_none c.args.self.now.slots.items c.args.node 0 (spot_gone c.args.self.now.slots.items c.as_slice.result.now c.as_slice.ensures.value c.args.node c.in-None.ensures)))

@@ -45,14 +45,14 @@ module _ (script : Script) (past more : List Event) where
       larger n (length (answers_by node (entries_told past))) (length (answers_by node (entries_told more))) (length (answers_by node (entries_told (past ++ more))))
       (ap length (answers_grow node) ∙ length-append (answers_by node (entries_told past)) (answers_by node (entries_told more))) h
 
-  done_stays : (node : ℕ) → is_done script past node ≡ true → is_done script (past ++ more) node ≡ true
+  pub done_stays : (node : ℕ) → is_done script past node ≡ true → is_done script (past ++ more) node ≡ true
   done_stays node h = by (session_of script node) refl
     where
       by : (o : Option Session) → session_of script node ≡ o → is_done script (past ++ more) node ≡ true
       by None e = rw e refl
       by (Some session) e = rw e (reached node (length session.statements) (rw e at h))
 
-  vanished_stays : (node : ℕ) → has_vanished past node ≡ true → has_vanished (past ++ more) node ≡ true
+  pub vanished_stays : (node : ℕ) → has_vanished past node ≡ true → has_vanished (past ++ more) node ≡ true
   vanished_stays node h = list_any-append (posts node) past more ∙ left_true (has_vanished past node) (has_vanished more node) h
 
   pub over_stays : (node : ℕ) → is_over script past node ≡ true → is_over script (past ++ more) node ≡ true
