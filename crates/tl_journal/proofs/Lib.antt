@@ -6,6 +6,7 @@ pub mod Begins
 pub mod ChangeSizes
 pub mod Claims
 pub mod ClaimsMade
+pub mod ClashSays
 pub mod CutShort
 pub mod CutSpoken
 pub mod Dispatch
@@ -49,6 +50,7 @@ pub mod Recoveries
 pub mod RecoveriesWhole
 pub mod RecoverySays
 pub mod Requests
+pub mod RivalsStand
 pub mod RowSizes
 pub mod Seen
 pub mod Shards

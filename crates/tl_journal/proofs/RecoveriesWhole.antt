@@ -165,6 +165,7 @@ module _ (script : Script) (settings : Settings) (past : List Event) (e : Event)
       recovered : (c : Claimed) → c.node ≡ gone → NoneOf after.active c → Made script settings session past e.node (node_after settings script past session).answers c → e.node ≡ n
           → IsRecovered script settings past e n gone
       recovered c is none m own = record {
+        own = own;
         also = m.also;
         claim = subst (λ (k : ℕ). WasGiven past n k m.also) is
             (subst (λ (k : ℕ). WasGiven past k c.node m.also) own (was_given e.node session is_session runs c m));

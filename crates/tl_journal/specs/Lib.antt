@@ -17,3 +17,4 @@ pub mod Law
 pub mod Recovered
 pub mod Outcome
 pub mod Promises
+pub mod Clashes

@@ -56,6 +56,7 @@ pub record HasNone (script : Script) (settings : Settings) (past : List Event) (
 -- the claim was given a notice, and after the event neither the claimed node nor one that was given with it has a
 -- transaction
 pub record IsRecovered (script : Script) (settings : Settings) (past : List Event) (e : Event) (n gone : ℕ) : Type 0 where
+  pub own : e.node ≡ n
   pub also : NodeSet
   pub claim : WasGiven past n gone also
   pub done : (node : ℕ) → 1 ≤ node → (gone == node || has_node also node) ≡ true → HasNone script settings (past ++ e ∷ []) node

@@ -1,3 +1,4 @@
+ghost use Rattle.tl_journal.specs.Clashes.{RivalsStand};
 ghost use Rattle.tl_journal.specs.Law.{EachIsMended, FirstCommits, NothingStrange, OneHistory, OwnRowsStandUnderKeys, SpeaksScript, SpeaksWhole, StoreStands};
 ghost use Rattle.tl_journal.specs.Recovered.{RecoveriesAreWhole};
 ghost use Rattle.tl_journal.specs.Promises.{AnswersAll, NeverConflicts};
@@ -17,6 +18,7 @@ pub fn every_journal_is_one_history()
     ensures heeded { NothingStrange }
     ensures own { OwnRowsStandUnderKeys }
     ensures recovered { RecoveriesAreWhole }
+    ensures rivals { RivalsStand }
 {}
 
 /// What a run that has come to its end promises besides being one history.

@@ -5,6 +5,7 @@ use Rattle.tl_isolation.specs.declared.script.Script.{Script}
 use Rattle.tl_journal.specs.declared.event.Event.{Event}
 use Rattle.tl_journal.specs.Binding.{IsBound}
 use Rattle.tl_journal.specs.Law.{EachIsMended, FirstCommits, IsRun, NothingStrange, OneHistory, SpeaksScript, SpeaksWhole, StoreStands}
+use Rattle.tl_journal.specs.Clashes.{RivalsStand}
 use Rattle.tl_journal.specs.Recovered.{RecoveriesAreWhole}
 use Rattle.tl_journal.specs.Promises.{AnswersAll, NeverConflicts}
 use Rattle.tl_journal.specs.Outcome.{HasRun}
@@ -19,9 +20,9 @@ stood : StoreStands → (script : Script) (settings : Settings) (events past res
     → Stood script settings past
 stood stands script settings events past rest run is = stands script settings past rest (subst (IsRun script settings) is run)
 
-pub one_history : OneHistory → SpeaksScript → SpeaksWhole → StoreStands → EachIsMended → FirstCommits → RecoveriesAreWhole → NothingStrange → AnswersAll
+pub one_history : OneHistory → SpeaksScript → SpeaksWhole → StoreStands → EachIsMended → FirstCommits → RecoveriesAreWhole → RivalsStand → NothingStrange → AnswersAll
     → NeverConflicts → RunsAreOneHistory
-one_history history speaks whole stands mended first recovered heeded answers alone script settings events bound few shards few_shards managers few_managers run =
+one_history history speaks whole stands mended first recovered rivals heeded answers alone script settings events bound few shards few_shards managers few_managers run =
     let is : IsRun script settings events = is_run script settings events bound shards few_shards managers few_managers run in
     record {
       bound = bound;
@@ -35,5 +36,6 @@ one_history history speaks whole stands mended first recovered heeded answers al
       mended = λ past rest e. mended script settings past rest (subst (IsRun script settings) e is);
       first = λ past event rest e. first script settings past event rest (subst (IsRun script settings) e is);
       recovered = λ past event rest e. recovered script settings past event rest (subst (IsRun script settings) e is);
+      rivals = λ past event rest e. rivals script settings past event rest (subst (IsRun script settings) e is);
       heeded = λ past event rest e. heeded script settings past event rest (subst (IsRun script settings) e is) few;
     }

@@ -21,6 +21,7 @@ use Rattle.tl_journal.specs.declared.event.Journal.{Journal}
 use Rattle.tl_journal.specs.Journal.{entries_told, session_of}
 use Rattle.tl_journal.specs.Binding.{IsBound}
 use Rattle.tl_journal.specs.Law.{BeginsWithFirst, Holds, IsMended, IsNotStrange}
+use Rattle.tl_journal.specs.Clashes.{ClashesStand}
 use Rattle.tl_journal.specs.Recovered.{RecoversWhole}
 use Rattle.tl_journal.specs.Schedule.{vanish_of}
 use Rattle.tl_script.specs.declared.fault.ScriptKind.{ScriptKind}
@@ -78,6 +79,8 @@ pub record IsOneHistory (script : Script) (settings : Settings) (events : List E
   pub first : (past : List Event) (e : Event) (rest : List Event) → events ≡ past ++ e ∷ rest → BeginsWithFirst script settings past e
   -- RECOVER is answered Recovered only once nothing is left of all the nodes that it was given,
   pub recovered : (past : List Event) (e : Event) (rest : List Event) → events ≡ past ++ e ∷ rest → RecoversWhole script settings past e
+  -- a clash is told only where the rival's version stands in the record's cell, the first outside the snapshot,
+  pub rivals : (past : List Event) (e : Event) (rest : List Event) → events ≡ past ++ e ∷ rest → ClashesStand script settings past e
   -- and no place replies anything strange
   pub heeded : (past : List Event) (e : Event) (rest : List Event) → events ≡ past ++ e ∷ rest → IsNotStrange script settings past e
 

@@ -9,6 +9,7 @@ use Rattle.tl_journal.proofs.FirstCommits.{first_commits}
 use Rattle.tl_journal.proofs.Journals.{holds_at, spoken_at, spoken_whole, stood_at}
 use Rattle.tl_journal.proofs.OwnKeyed.{own_keyed}
 use Rattle.tl_journal.proofs.RecoveriesWhole.{recoveries_are_whole}
+use Rattle.tl_journal.proofs.RivalsStand.{rivals_stand}
 use Rattle.tl_journal.proofs.StrangeReplies.{nothing_strange}
 use Rattle.tl_journal.proofs.law.every_journal_is_one_history.Goals as goal
 
@@ -63,3 +64,7 @@ returns-clause-own c script settings past rest run n session h runs = own_keyed 
 -- src/law.rt:5:1
 pub returns-clause-recovered : goal.returns-clause-recovered
 returns-clause-recovered c script settings past e rest run = recoveries_are_whole script settings past e rest run
+
+-- src/law.rt:5:1
+pub returns-clause-rivals : goal.returns-clause-rivals
+returns-clause-rivals c script settings past e rest run = rivals_stand script settings past e rest run
