@@ -1,8 +1,7 @@
 -- Journals whose requests are told whole stand in the order of their schedule.
-use Rattle.std.proofs.Common.{◌≡◌, ◌⊎◌, inl, inr, ℕ, Bool, true, false, List, [], ◌∷◌, ◌++◌, Option, Some, None, length, nat_le, refl, sym, ap, ◌∙◌, subst}
+use Rattle.std.proofs.Common.{◌≡◌, ◌⊎◌, inl, inr, Bool, true, false, List, [], ◌∷◌, ◌++◌, Option, Some, None, length, nat_le, refl, sym, ap, ◌∙◌}
 use Rattle.std.specs.Prelude.{◌&&◌, ◌||◌, if◌then◌else◌}
-use Rattle.std.proofs.lemmas.Bool.{both_ways}
-use Rattle.tl_base.specs.Along.{Along}
+use Rattle.tl_base.specs.Along.{Along, Along-append}
 use Rattle.tl_base.specs.declared.place.Settings.{Settings}
 use Rattle.tl_isolation.specs.declared.script.Script.{Script}
 use Rattle.tl_journal.specs.declared.event.Event.{Event}
@@ -13,6 +12,9 @@ pub latest_more : (past : List Event) (e : Event) → latest (past ++ e ∷ []) 
 latest_more [] e = refl
 latest_more (x ∷ []) e = refl
 latest_more (x ∷ y ∷ past) e = latest_more (y ∷ past) e
+
+pub along_one : {A : Type 0} (P : List A → A → Type 0) (past : List A) (x : A) → Along P [] past → P past x → Along P [] (past ++ x ∷ [])
+along_one P past x h g = Along-append P [] past (x ∷ []) h (g, tt)
 
 pub along_first : {A : Type 0} (P Q : List A → A → Type 0) → (past xs : List A) → Along (λ (past : List A) (x : A). P past x × Q past x) past xs → Along P past xs
 along_first P Q past [] h = tt

@@ -78,5 +78,6 @@ pub mod StrangeSound
 pub mod StrangeStops
 pub mod StrangeTells
 pub mod Together
+pub mod Unlawful
 pub mod Unsaid
 pub mod Vanishes

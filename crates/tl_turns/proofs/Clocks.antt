@@ -6,14 +6,10 @@ use Rattle.tl_isolation.specs.declared.script.Script.{Script}
 use Rattle.tl_isolation.specs.declared.script.TurnItem.{TurnItem}
 use Rattle.tl_journal.specs.declared.event.Event.{Event}
 use Rattle.tl_journal.specs.Journal.{is_post}
-use Rattle.tl_journal.specs.Schedule.{Clock, clock_after, clock_from, is_behind, latest, taken, ticked, turn_at, turn_by, unfinished}
+use Rattle.tl_journal.specs.Schedule.{Clock, clock_after, clock_from, is_behind, taken, ticked, turn_at, turn_by, unfinished}
+use Rattle.tl_journal.proofs.InOrder.{latest_more}
 use Rattle.tl_turns.specs.Clock.{after_turn, passed}
 use Rattle.tl_turns.proofs.Finished.{passes_again, passes_twice}
-
-pub latest_more : (past : List Event) (e : Event) → latest (past ++ e ∷ []) ≡ Some e
-latest_more [] e = refl
-latest_more (x ∷ []) e = refl
-latest_more (x ∷ y ∷ past) e = latest_more (y ∷ past) e
 
 -- a notice directly behind an event of its node doesn't
 pub behind_own : (past : List Event) (e f : Event) → e.node ≡ f.node → is_post f.request ≡ true → is_behind (past ++ e ∷ []) f ≡ true

@@ -2,7 +2,7 @@
 use Rattle.std.proofs.Common.{◌≡◌, ◌∙◌, inl, inr, ℕ, ◌+◌, ◌<◌, ◌≤◌, Bool, true, false, List, [], ◌∷◌, ◌++◌, Option, Some, None, length, append_assoc, append-nil, length-append, ap, refl, sym, subst, arith}
 use Rattle.std.specs.Prelude.{◌==◌, ◌&&◌, ◌||◌, not, if◌then◌else◌}
 use Rattle.std.proofs.lemmas.Bool.{both_ways}
-use Rattle.tl_base.specs.Along.{Along, Along-append}
+use Rattle.tl_base.specs.Along.{Along}
 use Rattle.tl_base.specs.declared.place.Settings.{Settings}
 use Rattle.tl_isolation.specs.declared.entry.Ending.{Ending}
 use Rattle.tl_isolation.specs.declared.entry.Ending.TheVariants as ending
@@ -17,25 +17,29 @@ use Rattle.tl_journal.specs.Journal.{has_vanished, is_post, session_of}
 use Rattle.tl_journal.specs.Binding.{IsBound}
 use Rattle.tl_journal.specs.Law.{IsRun}
 use Rattle.tl_journal.specs.Run.{EndsAt}
-use Rattle.tl_journal.specs.Schedule.{Clock, EndsSo, InTurn, MayAsk, clock_after, gave_none, is_behind, is_done, is_due, is_over, is_spent, next_round, owes_notice, turn_at, unfinished}
+use Rattle.tl_journal.specs.Schedule.{Clock, EndsSo, InTurn, MayAsk, clock_after, gave_none, is_behind, is_done, is_due, is_over, is_spent, latest, next_round, owes_notice, owing, turn_at, unfinished}
+use Rattle.tl_journal.proofs.Grows.{left_true}
+use Rattle.tl_journal.proofs.InOrder.{along_one, latest_more}
 use Rattle.tl_journal.proofs.Opens.{found_number}
 use Rattle.tl_world.specs.declared.world.Turned.{Turned}
 use Rattle.tl_world.specs.declared.world.Turned.TheVariants as turned
 use Rattle.tl_world.specs.Stands.{Stands, WorldValue}
-use Rattle.tl_world.specs.Turns.{EndsBehind, GivesNone, IsNotice, IsRequestOf, TurnsTo}
+use Rattle.tl_world.specs.Turns.{EndsBehind, IsDirect, IsNotice, IsRequestOf, TurnsTo}
 use Rattle.tl_turns.specs.Clock.{after_turn, clock_of, passed}
 use Rattle.tl_turns.specs.declared.clock.Clock as code
-use Rattle.tl_turns.proofs.Clocks.{Agree, after_more, agree_later, agree_turned, behind_own, behind_stays, clock_then, latest_more, same_turn}
+use Rattle.tl_turns.proofs.Clocks.{Agree, after_more, agree_later, agree_turned, behind_own, behind_stays, clock_then, same_turn}
 use Rattle.tl_turns.proofs.Finished.{no_turn, turn_runs}
-use Rattle.tl_journal.proofs.Grows.{left_true}
 use Rattle.tl_turns.proofs.Refusals.{none_refused}
 use Rattle.tl_turns.proofs.Rounds.{all_over}
 
--- the events so far end and take turns as they should, and no notice is owed
+-- the events so far end and take turns as they should
 pub record IsSoFar (script : Script) (settings : Settings) (events : List Event) : Type 0 where
   pub ends : Along (EndsAt script settings) [] events
   pub in_turn : Along (InTurn script settings) [] events
-  pub owes : owes_notice script settings events ≡ None
+
+-- and no notice is owed
+abbrev Settled : Script → Settings → List Event → Type 0
+Settled script settings events = (node : ℕ) → owes_notice script settings events node ≡ false
 
 -- the clock has come as far as the schedule's
 pub record Follows (script : Script) (events : List Event) (c : code.Clock) : Type 0 where
@@ -43,53 +47,45 @@ pub record Follows (script : Script) (events : List Event) (c : code.Clock) : Ty
   pub count : c.events ≡ length events
 
 pub nothing_yet : (script : Script) (settings : Settings) → IsSoFar script settings []
-nothing_yet script settings = record { ends = tt; in_turn = tt; owes = refl }
-
-along_one : (P : List Event → Event → Type 0) (past : List Event) (e : Event) → Along P [] past → P past e → Along P [] (past ++ e ∷ [])
-along_one P past e h g = Along-append P [] past (e ∷ []) h (g, tt)
+nothing_yet script settings = record { ends = tt; in_turn = tt }
 
 -- ---- one event
 
 module _ (script : Script) (settings : Settings) (past : List Event) where
-  in_turn_at : (e : Event) → owes_notice script settings past ≡ None → turn_at script past (clock_after script past) ≡ Some e.node → InTurn script settings past e
+  none_owing : Settled script settings past → owing script settings past ≡ None
+  none_owing settled = by (latest past) refl
+    where
+      by : (o : Option Event) → latest past ≡ o → owing script settings past ≡ None
+      by None e = rw e refl
+      by (Some before) e = rw e (ap (λ (b : Bool). if b then Some before.node else None) (settled before.node))
+
+  in_turn_at : (e : Event) → owing script settings past ≡ None → turn_at script past (clock_after script past) ≡ Some e.node → InTurn script settings past e
   in_turn_at e owes turn = rw owes (inr turn)
 
-  in_turn_owed : (e : Event) (node : ℕ) → owes_notice script settings past ≡ Some node → e.node ≡ node → is_post e.request ≡ true → InTurn script settings past e
-  in_turn_owed e node owes own post = rw owes (own, post)
+  -- who owes a notice directly behind its request
+  owing_if : (e : Event) (b : Bool) → owes_notice script settings (past ++ e ∷ []) e.node ≡ b
+      → owing script settings (past ++ e ∷ []) ≡ (if b then Some e.node else None)
+  owing_if e b h = rw (latest_more past e) (ap (λ (c : Bool). if c then Some e.node else None) h)
 
-  in_turn_wanting : (e : Event) → owes_notice script settings past ≡ None → is_behind past e ≡ true → gave_none past ≡ true → InTurn script settings past e
-  in_turn_wanting e owes behind none = rw owes (inl (behind, none))
-
-  -- what is owed after an event
-  owed_if : (e : Event) (p d s : Bool) → is_post e.request ≡ p → is_due script (past ++ e ∷ []) e.node ≡ d → is_spent script settings (past ++ e ∷ []) e.node ≡ s
-      → owes_notice script settings (past ++ e ∷ []) ≡ (if not p && (d || s) then Some e.node else None)
-  owed_if e p d s post due spent = rw (latest_more past e, post, due, spent) refl
-
-  -- a death notice owes none
-  owes_none_posted : (e : Event) → is_post e.request ≡ true → owes_notice script settings (past ++ e ∷ []) ≡ None
-  owes_none_posted e post = owed_if e true (is_due script (past ++ e ∷ []) e.node) (is_spent script settings (past ++ e ∷ []) e.node) post refl refl
-
-module _ (script : Script) (settings : Settings) (past : List Event) where
   -- a notice behind a request of its node
-  notice_in_turn : (e f : Event) (so : Ending) → is_post e.request ≡ false → f.node ≡ e.node → is_post f.request ≡ true
-      → EndsSo script settings (past ++ e ∷ []) e.node so → GivesNone so (past ++ e ∷ []) → InTurn script settings (past ++ e ∷ []) f
-  notice_in_turn e f so request own post ends none = by (is_due script (past ++ e ∷ []) e.node) refl (is_spent script settings (past ++ e ∷ []) e.node) refl so ends none
+  notice_in_turn : (e f : Event) (so : Ending) → f.node ≡ e.node → is_post f.request ≡ true → IsDirect script settings (past ++ e ∷ []) e.node so
+      → InTurn script settings (past ++ e ∷ []) f
+  notice_in_turn e f so own post (inl owed) = rw (owing_if e true owed) (own, post)
+  notice_in_turn e f so own post (inr wanted) = by (owes_notice script settings (past ++ e ∷ []) e.node) refl
     where
-      by : (d : Bool) → is_due script (past ++ e ∷ []) e.node ≡ d → (s : Bool) → is_spent script settings (past ++ e ∷ []) e.node ≡ s
-          → (so : Ending) → EndsSo script settings (past ++ e ∷ []) e.node so → GivesNone so (past ++ e ∷ []) → InTurn script settings (past ++ e ∷ []) f
-      by true due s spent so ends none = in_turn_owed script settings (past ++ e ∷ []) f e.node (owed_if script settings past e false true s request due spent) own post
-      by false due true spent so ends none = in_turn_owed script settings (past ++ e ∷ []) f e.node (owed_if script settings past e false false true request due spent) own post
-      by false due false spent ending.Vanished ends none = absurd (both_ways (is_due script (past ++ e ∷ []) e.node) due ends)
-      by false due false spent ending.Spent ends none = absurd (both_ways (is_spent script settings (past ++ e ∷ []) e.node) spent ends.1)
-      by false due false spent ending.OutOfMemory ends none =
-          in_turn_wanting script settings (past ++ e ∷ []) f (owed_if script settings past e false false false request due spent) (behind_own past e f (sym own) post) none
+      none : gave_none f.node (past ++ e ∷ []) ≡ true
+      none = ap (λ (n : ℕ). gave_none n (past ++ e ∷ [])) own ∙ wanted.1
+
+      by : (b : Bool) → owes_notice script settings (past ++ e ∷ []) e.node ≡ b → InTurn script settings (past ++ e ∷ []) f
+      by true h = rw (owing_if e true h) (own, post)
+      by false h = rw (owing_if e false h) (inl (behind_own past e f (sym own) post, none))
 
 -- ---- one turn
 
-module _ (script : Script) (settings : Settings) (past : List Event) (h : IsSoFar script settings past) (node : ℕ)
+module _ (script : Script) (settings : Settings) (past : List Event) (h : IsSoFar script settings past) (settled : Settled script settings past) (node : ℕ)
     (turn : turn_at script past (clock_after script past) ≡ Some node) where
   first_in_turn : (e : Event) → e.node ≡ node → InTurn script settings past e
-  first_in_turn e own = in_turn_at script settings past e h.owes (turn ∙ ap (λ (n : ℕ). Some n) (sym own))
+  first_in_turn e own = in_turn_at script settings past e (none_owing script settings past settled) (turn ∙ ap (λ (n : ℕ). Some n) (sym own))
 
   request_ends : (e : Event) → IsRequestOf node e → MayAsk script settings past node → EndsAt script settings past e
   request_ends e r may = inr (r.request, subst (λ (n : ℕ). MayAsk script settings past n) (sym r.of_node) may)
@@ -106,13 +102,10 @@ module _ (script : Script) (settings : Settings) (past : List Event) (h : IsSoFa
       )
 
   -- it made a request
-  went : (e : Event) → IsRequestOf node e → MayAsk script settings past node → is_due script (past ++ e ∷ []) node ≡ false
-      → is_spent script settings (past ++ e ∷ []) node ≡ false → IsSoFar script settings (past ++ e ∷ [])
-  went e r may due spent = record {
+  went : (e : Event) → IsRequestOf node e → MayAsk script settings past node → IsSoFar script settings (past ++ e ∷ [])
+  went e r may = record {
     ends = along_one (EndsAt script settings) past e h.ends (request_ends e r may);
     in_turn = along_one (InTurn script settings) past e h.in_turn (first_in_turn e r.of_node);
-    owes = owed_if script settings past e false false false r.request (ap (is_due script (past ++ e ∷ [])) r.of_node ∙ due)
-        (ap (is_spent script settings (past ++ e ∷ [])) r.of_node ∙ spent);
   }
 
   -- it ended without a request
@@ -120,19 +113,17 @@ module _ (script : Script) (settings : Settings) (past : List Event) (h : IsSoFa
   ended e so n ends = record {
     ends = along_one (EndsAt script settings) past e h.ends (notice_ends past e so n ends);
     in_turn = along_one (InTurn script settings) past e h.in_turn (first_in_turn e n.of_node);
-    owes = owes_none_posted script settings past e n.notice;
   }
 
   -- it ended behind a request
   ended_behind : (e f : Event) (so : Ending) → IsRequestOf node e → MayAsk script settings past node → EndsSo script settings (past ++ e ∷ []) node so
-      → GivesNone so (past ++ e ∷ []) → IsNotice node so f → IsSoFar script settings ((past ++ e ∷ []) ++ f ∷ [])
-  ended_behind e f so r may ends none n = record {
+      → IsDirect script settings (past ++ e ∷ []) node so → IsNotice node so f → IsSoFar script settings ((past ++ e ∷ []) ++ f ∷ [])
+  ended_behind e f so r may ends direct n = record {
     ends = along_one (EndsAt script settings) (past ++ e ∷ []) f (along_one (EndsAt script settings) past e h.ends (request_ends e r may))
         (notice_ends (past ++ e ∷ []) f so n ends);
     in_turn = along_one (InTurn script settings) (past ++ e ∷ []) f (along_one (InTurn script settings) past e h.in_turn (first_in_turn e r.of_node))
-        (notice_in_turn script settings past e f so r.request (n.of_node ∙ sym r.of_node) n.notice
-        (subst (λ (k : ℕ). EndsSo script settings (past ++ e ∷ []) k so) (sym r.of_node) ends) none);
-    owes = owes_none_posted script settings (past ++ e ∷ []) f n.notice;
+        (notice_in_turn script settings past e f so (n.of_node ∙ sym r.of_node) n.notice
+        (subst (λ (k : ℕ). IsDirect script settings (past ++ e ∷ []) k so) (sym r.of_node) direct));
   }
 
 -- what a turn adds: an event of the node, and behind it at most its death notice
@@ -147,7 +138,7 @@ record Turns (script : Script) (settings : Settings) (node : ℕ) (past new : Li
   pub so_far : IsSoFar script settings new
   pub adds : Adds script node past new
 
-module _ (script : Script) (old : WorldValue) (h : IsSoFar script old.settings old.events) (node : ℕ)
+module _ (script : Script) (old : WorldValue) (h : IsSoFar script old.settings old.events) (settled : Settled script old.settings old.events) (node : ℕ)
     (turn : turn_at script old.events (clock_after script old.events) ≡ Some node) where
   one_added : (e : Event) → e.node ≡ node → (new : List Event) → new ≡ old.events ++ e ∷ [] → IsSoFar script old.settings (old.events ++ e ∷ [])
       → Turns script old.settings node old.events new
@@ -184,9 +175,9 @@ module _ (script : Script) (old : WorldValue) (h : IsSoFar script old.settings o
   ends_turn : (so : Ending) (es : List Event) (e : Event) (new : List Event) → new ≡ (old.events ++ es) ++ e ∷ [] → EndsBehind script node old so es → IsNotice node so e
       → Turns script old.settings node old.events new
   ends_turn so [] e new is ends n =
-      one_added e n.of_node new (is ∙ ap (λ (es : List Event). es ++ e ∷ []) (append-nil old.events)) (ended script old.settings old.events h node turn e so n ends)
+      one_added e n.of_node new (is ∙ ap (λ (es : List Event). es ++ e ∷ []) (append-nil old.events)) (ended script old.settings old.events h settled node turn e so n ends)
   ends_turn so (f ∷ []) e new is ends n =
-      two_added f e ends.0.of_node n.of_node n.notice new is (ended_behind script old.settings old.events h node turn f e so ends.0 ends.1 ends.2 ends.3 n)
+      two_added f e ends.0.of_node n.of_node n.notice new is (ended_behind script old.settings old.events h settled node turn f e so ends.0 ends.1 ends.2 ends.3 n)
   ends_turn so (f ∷ g ∷ es) e new is ends n = absurd ends
 
   turns : (t : Turned) (new : WorldValue) → TurnsTo script node old t new → Turns script old.settings node old.events new.events
@@ -194,9 +185,7 @@ module _ (script : Script) (old : WorldValue) (h : IsSoFar script old.settings o
       absurd (both_ways (is_over script old.events node) (turn_runs script old.events (clock_after script old.events) node turn) t.1)
   turns turned.Went new t =
       one_added t.1 t.3.of_node new.events t.2
-      (went script old.settings old.events h node turn t.1 t.3 t.4
-      (subst (λ (es : List Event). is_due script es node ≡ false) t.2 t.5)
-      (subst (λ (es : List Event). is_spent script old.settings es node ≡ false) t.2 t.6))
+      (went script old.settings old.events h settled node turn t.1 t.3 t.4)
   turns (turned.Ended so) new t = ends_turn so t.1 t.2 new.events t.3 t.4 t.5
 
 settings_stay : (script : Script) (node : ℕ) (old new : WorldValue) (t : Turned) → TurnsTo script node old t new → new.settings ≡ old.settings
@@ -244,7 +233,7 @@ pub keeps : (script : Script) (settings : Settings) (old new : WorldValue) (node
     → after.events ≡ length new.events → Kept script settings old new after
 keeps script settings old new node t c passing after h turn passes count stands to ticks counts =
     let own : turn_at script old.events (clock_after script old.events) ≡ Some node = sym (same_turn script old.events (clock_of c) (clock_after script old.events) h.follows.agrees) ∙ turn in
-    let turned_so : Turns script old.settings node old.events new.events = turns script old h.so_far node own t new to in
+    let turned_so : Turns script old.settings node old.events new.events = turns script old h.so_far h.stands.endings.settled node own t new to in
     let a : Adds script node old.events new.events = turned_so.adds in
     let same : new.settings ≡ old.settings = settings_stay script node old new t to in
     let ticked_so : clock_of after ≡ after_turn old.events a.first node (passed script old.events (clock_of c)) =
@@ -282,23 +271,24 @@ pub finishes : (script : Script) (settings : Settings) (w : WorldValue) (c : cod
 finishes script settings w c h none =
     let run : IsRun script w.settings w.events =
     record {
-      bound = h.stands.bound;
-      shards = h.stands.shards;
-      few_shards = h.stands.few_shards;
-      managers = h.stands.managers;
-      few_managers = h.stands.few_managers;
-      few = h.stands.few;
-      trace = h.stands.trace;
+      bound = h.stands.on.bound;
+      shards = h.stands.on.shards;
+      few_shards = h.stands.on.few_shards;
+      managers = h.stands.on.managers;
+      few_managers = h.stands.on.few_managers;
+      few = h.stands.on.few;
+      trace = h.stands.on.trace;
     } in
     let next : next_round script w.events (clock_of c).last ≡ None = no_turn script w.events (clock_of c) none in
     subst (λ (x : Settings). HasRun script x w.events) h.settings_are
     (record {
       journal = record {
-        trace = h.stands.trace;
+        trace = h.stands.on.trace;
         ends = h.so_far.ends;
-        answered = none_refused script w.settings w.events run h.stands.few_rows;
+        answered = none_refused script w.settings w.events run h.stands.on.few_rows;
         in_turn = λ _. h.so_far.in_turn;
       };
-      few = h.stands.few;
-      over = outside script w.settings w.events h.stands.bound (all_over (is_over script w.events) (clock_of c).last next);
+      few = h.stands.on.few;
+      over = outside script w.settings w.events h.stands.on.bound (all_over (is_over script w.events) (clock_of c).last next);
+      settled = h.stands.endings.settled;
     })

@@ -3,7 +3,6 @@ use Rattle.std.proofs.Common.{◌≡◌, ◌⊎◌, ℕ, ◌+◌, Bool, true, fa
 use Rattle.std.specs.Prelude.{◌==◌, ◌&&◌, ◌||◌, nat_le, not, if◌then◌else◌}
 use Rattle.std.proofs.lemmas.Bool.{eqb-true}
 use Rattle.std.proofs.lemmas.Bool.Decides.{nat_tests}
-use Rattle.tl_base.specs.Along.{Along, Along-append}
 use Rattle.tl_base.specs.declared.place.Settings.{Settings}
 use Rattle.tl_isolation.specs.declared.entry.Ending.{Ending}
 use Rattle.tl_isolation.specs.declared.entry.Ending.TheVariants as ending_of
@@ -12,13 +11,13 @@ use Rattle.tl_isolation.specs.declared.script.Script.{Script}
 use Rattle.tl_isolation.specs.declared.script.Session.{Session}
 use Rattle.tl_isolation.specs.declared.script.Vanish.{Vanish}
 use Rattle.tl_journal.specs.declared.event.Event.{Event}
-use Rattle.tl_journal.specs.Journal.{has_vanished, is_post, node_after, posts, session_of}
+use Rattle.tl_journal.specs.Journal.{has_vanished, is_post, posts, session_of}
 use Rattle.tl_journal.specs.Law.{IsRun}
 use Rattle.tl_journal.specs.Node.{Node}
 use Rattle.tl_journal.specs.Schedule.{EndsSo, MayAsk, is_done, is_due, is_spent, latest, owes_notice, owing, requests_of, vanish_of, was_cut}
 use Rattle.tl_journal.specs.Strange.{is_stopped}
 use Rattle.tl_journal.proofs.Grows.{done_stays}
-use Rattle.tl_journal.proofs.InOrder.{latest_more}
+use Rattle.tl_journal.proofs.InOrder.{along_one, latest_more}
 use Rattle.tl_journal.proofs.Logs.{vanished_more}
 use Rattle.tl_journal.proofs.Opens.{found_number}
 use Rattle.tl_journal.proofs.Stood.{vanished_same}
@@ -90,9 +89,6 @@ none_some x e = absurd cc
 
 some_same : (n m : ℕ) → Some n ≡ Some m → n ≡ m
 some_same n m e = cc
-
-along_one : (P : List Event → Event → Type 0) (past : List Event) (e : Event) → Along P [] past → P past e → Along P [] (past ++ e ∷ [])
-along_one P past e h g = Along-append P [] past (e ∷ []) h (g, tt)
 
 -- ---- one event more
 

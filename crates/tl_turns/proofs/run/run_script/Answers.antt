@@ -28,7 +28,7 @@ pub loop-node-preserved : goal.loop-node-preserved
 loop-node-preserved c = (kept c).holds
 
 pub loop-node-smaller : goal.loop-node-smaller
-loop-node-smaller c = omega (arith, (kept c).more, c.loop-node.invariant.stands.few)
+loop-node-smaller c = omega (arith, (kept c).more, c.loop-node.invariant.stands.on.few)
 
 pub returns : goal.returns
 returns c =
