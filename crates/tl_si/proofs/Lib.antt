@@ -1,6 +1,14 @@
 pub mod Ties
-pub mod Found
+pub mod Find
+pub mod InHand
+pub mod Same
 pub mod Laid
-pub mod Commits
-pub mod Inserted
+pub mod Found
+pub mod Rows
+pub mod Table
+pub mod Laying
+pub mod Homes
+pub mod Stays
+pub mod Alone
+pub mod Sayings
 pub mod Entries

@@ -1,42 +1,96 @@
-ghost use Rattle.std.specs.Prelude.{◌≤◌};
-
 use super::*;
 use std::alloc::Global;
 use std::test::Fail;
+use tl_algebra::{Condition, Edit, Expression, Join, Output, Query, SetColumn, Side};
 use tl_base::{Items, NoMemory, NodeId, Settings, Text, Tid};
-use tl_history::{Bound, Condition, Edit, Query, Side};
+use tl_isolation::{Answer, Bound, Ending, Entry, Said};
 use tl_schema::{Catalog, Column, OpeningRow, Setup, Table};
 use tl_values::{Comparison, Kind, Row, Rows, Value};
 
-fn column(alloc: Global, name: &str) -> Result<Column, NoMemory> {
+/// What is told of a statement.
+#[derive(Clone, Copy)]
+enum Told {
+    Begun,
+    Changed(u32),
+    /// One row, with one value.
+    Value(i64),
+    Duplicate,
+    Conflict(Tid),
+    Committed,
+    Recovered(u8),
+}
+
+/// A statement on the accounts.
+#[derive(Clone, Copy)]
+enum Statement {
+    Begin,
+    Recover(u8),
+    /// `SELECT balance FROM account WHERE id = ..`
+    Read(i64),
+    /// `UPDATE account SET balance = .. WHERE id = ..`
+    Update(i64, i64),
+    /// `INSERT INTO account VALUES (.., ..)`
+    Insert(i64, i64),
+}
+
+/// An entry. A statement is answered at once, or when its transaction is committed.
+#[derive(Clone, Copy)]
+enum Line {
+    Asked(u8),
+    /// The node, the transaction, and how many commits it sees.
+    Began(u8, Tid, u32),
+    Now(u8, Statement, Told),
+    Later(u8, Statement, Told),
+    Tried(Tid),
+    Clash(Tid, Tid),
+    Committed(Tid),
+    Undone(Tid),
+    Answered(u8, Told),
+    Vanished(u8),
+}
+
+/// The node of this number, and the first where there is none.
+fn node(number: u8) -> NodeId {
+    match NodeId::new(u64::from(number)) {
+        Some(node) => node,
+        None => NodeId::new(1).unwrap(),
+    }
+}
+
+fn column(alloc: Global, name: &str, not_null: bool) -> Result<Column, NoMemory> {
     Ok(Column {
         name: Text::from_str(alloc, name)?,
         kind: Kind::Int,
-        not_null: false,
+        not_null,
     })
 }
 
-fn table(alloc: Global) -> Result<Table, NoMemory> {
+fn account(alloc: Global) -> Result<Table, NoMemory> {
     let mut columns = Items::new(alloc);
-    columns.push(column(alloc, "k")?)?;
-    columns.push(column(alloc, "v")?)?;
+    columns.push(column(alloc, "id", false)?)?;
+    columns.push(column(alloc, "balance", true)?)?;
     Ok(Table {
-        name: Text::from_str(alloc, "t")?,
+        name: Text::from_str(alloc, "account")?,
         columns,
         key: Items::from_slice(alloc, &[0])?,
         indexes: Items::new(alloc),
     })
 }
 
-/// `CREATE TABLE t (k INT PRIMARY KEY, v INT)`, with the row (1, 10).
+fn opening_row(alloc: Global, id: i64) -> Result<OpeningRow, NoMemory> {
+    Ok(OpeningRow {
+        table: 0,
+        row: values(alloc, &[id, 100])?,
+    })
+}
+
+/// `CREATE TABLE account (id INT PRIMARY KEY, balance INT NOT NULL)`, with the rows (1, 100) and (2, 100).
 fn setup(alloc: Global) -> Result<Setup, NoMemory> {
     let mut tables = Items::new(alloc);
-    tables.push(table(alloc)?)?;
+    tables.push(account(alloc)?)?;
     let mut rows = Items::new(alloc);
-    rows.push(OpeningRow {
-        table: 0,
-        row: pair(alloc, 1, 10)?,
-    })?;
+    rows.push(opening_row(alloc, 1)?)?;
+    rows.push(opening_row(alloc, 2)?)?;
     Ok(Setup {
         catalog: Catalog { tables },
         rows,
@@ -50,144 +104,144 @@ fn setup(alloc: Global) -> Result<Setup, NoMemory> {
     })
 }
 
-fn pair(alloc: Global, key: i64, value: i64) -> Result<Row, NoMemory> {
-    let mut values = Row::new(alloc);
-    values.push(Value::Int(key))?;
-    values.push(Value::Int(value))?;
-    Ok(values)
+fn values(alloc: Global, numbers: &[i64]) -> Result<Row, NoMemory> {
+    let mut row = Row::new(alloc);
+    for number in numbers {
+        row.push(Value::Int(*number))?;
+    }
+    Ok(row)
 }
 
-fn one_row(alloc: Global, key: i64, value: i64) -> Result<Rows, NoMemory> {
+fn one_row(alloc: Global, numbers: &[i64]) -> Result<Rows, NoMemory> {
     let mut rows = Rows::new(alloc);
-    rows.push(pair(alloc, key, value)?)?;
+    rows.push(values(alloc, numbers)?)?;
     Ok(rows)
 }
 
-/// `INSERT INTO t VALUES (key, value)`
-fn insert(alloc: Global, key: i64, value: i64) -> Result<Bound, NoMemory> {
-    Ok(Bound::Change {
-        edit: Edit::Insert {
-            table: 0,
-            rows: one_row(alloc, key, value)?,
+/// `WHERE id = ..`
+fn with_id(id: i64) -> Option<Condition> {
+    Some(Condition::Test {
+        left: Side::Place(0),
+        by: Comparison::Equal,
+        right: Side::Literal(Value::Int(id)),
+    })
+}
+
+fn read(alloc: Global, id: i64) -> Result<Query, NoMemory> {
+    let mut from = Items::new(alloc);
+    from.push(Join { table: 0, on: None })?;
+    let mut outputs = Items::new(alloc);
+    outputs.push(Output::Expression(Expression::Place(1)))?;
+    Ok(Query {
+        from,
+        filter: with_id(id),
+        group: Items::new(alloc),
+        outputs,
+        sort: Items::new(alloc),
+        limit: None,
+    })
+}
+
+fn update(alloc: Global, id: i64, balance: i64) -> Result<Edit, NoMemory> {
+    let mut sets = Items::new(alloc);
+    sets.push(SetColumn {
+        column: 1,
+        value: Expression::Literal(Value::Int(balance)),
+    })?;
+    Ok(Edit::Update {
+        table: 0,
+        sets,
+        filter: with_id(id),
+    })
+}
+
+fn insert(alloc: Global, id: i64, balance: i64) -> Result<Edit, NoMemory> {
+    Ok(Edit::Insert {
+        table: 0,
+        rows: one_row(alloc, &[id, balance])?,
+    })
+}
+
+fn bound(alloc: Global, statement: Statement) -> Result<Bound, NoMemory> {
+    Ok(match statement {
+        Statement::Begin => Bound::Begin,
+        Statement::Recover(gone) => Bound::Recover { node: node(gone) },
+        Statement::Read(id) => Bound::Select {
+            query: read(alloc, id)?,
+        },
+        Statement::Update(id, balance) => Bound::Change {
+            edit: update(alloc, id, balance)?,
+        },
+        Statement::Insert(id, balance) => Bound::Change {
+            edit: insert(alloc, id, balance)?,
         },
     })
 }
 
-/// `SELECT * FROM t WHERE k = key`
-fn select(key: i64) -> Bound {
-    Bound::Select {
-        query: Query {
-            table: 0,
-            filter: Some(Condition::Test {
-                left: Side::Place(0),
-                by: Comparison::Equal,
-                right: Side::Literal(Value::Int(key)),
-            }),
-        },
-    }
-}
-
-fn node(number: u64) -> NodeId
-    requires least { 1 ≤ number }
-    requires most { number ≤ 16 }
-{
-    NodeId::new(number).unwrap()
-}
-
-/// The node asks and begins, and sees so many commits.
-fn begin(entries: &mut Items<Entry>, at: NodeId, tid: Tid, first: u32) -> Result<(), NoMemory> {
-    entries.push(Entry::Asked { node: at })?;
-    entries.push(Entry::Began {
-        node: at,
-        tid,
-        first,
+fn answer(alloc: Global, told: Told) -> Result<Answer, NoMemory> {
+    Ok(match told {
+        Told::Begun => Answer::Begun,
+        Told::Changed(count) => Answer::Changed(count),
+        Told::Value(value) => Answer::Rows(one_row(alloc, &[value])?),
+        Told::Duplicate => Answer::Duplicate,
+        Told::Conflict(rival) => Answer::Conflict(rival),
+        Told::Committed => Answer::Committed,
+        Told::Recovered(gone) => Answer::Recovered(node(gone)),
     })
 }
 
-fn say(
-    entries: &mut Items<Entry>,
-    at: NodeId,
-    bound: Bound,
-    answer: Answer,
+fn said(
+    alloc: Global,
+    at: u8,
+    statement: Statement,
+    told: Told,
     answered: bool,
-) -> Result<(), NoMemory> {
-    entries.push(Entry::Said {
-        node: at,
-        bound,
+) -> Result<Entry, NoMemory> {
+    Ok(Entry::Said {
+        node: node(at),
+        bound: bound(alloc, statement)?,
         said: Said {
             statement: 1,
-            answer,
+            answer: answer(alloc, told)?,
             answered,
         },
     })
 }
 
-/// The transaction is tried, and committed.
-fn commit(entries: &mut Items<Entry>, tid: Tid) -> Result<(), NoMemory> {
-    entries.push(Entry::Tried { tid })?;
-    entries.push(Entry::Committed { tid })
-}
-
-fn answer(entries: &mut Items<Entry>, at: NodeId, told: Answer) -> Result<(), NoMemory> {
-    entries.push(Entry::Answered {
-        node: at,
-        statement: 1,
-        answer: told,
+fn entry(alloc: Global, line: Line) -> Result<Entry, NoMemory> {
+    Ok(match line {
+        Line::Asked(at) => Entry::Asked { node: node(at) },
+        Line::Began(at, tid, first) => Entry::Began {
+            node: node(at),
+            tid,
+            first,
+        },
+        Line::Now(at, statement, told) => said(alloc, at, statement, told, true)?,
+        Line::Later(at, statement, told) => said(alloc, at, statement, told, false)?,
+        Line::Tried(tid) => Entry::Tried { tid },
+        Line::Clash(tid, rival) => Entry::Clash { tid, rival, at: 0 },
+        Line::Committed(tid) => Entry::Committed { tid },
+        Line::Undone(tid) => Entry::Undone { tid },
+        Line::Answered(at, told) => Entry::Answered {
+            node: node(at),
+            statement: 1,
+            answer: answer(alloc, told)?,
+        },
+        Line::Vanished(at) => Entry::Vanished {
+            node: node(at),
+            ending: Ending::Vanished,
+        },
     })
-}
-
-fn vanish(entries: &mut Items<Entry>, at: NodeId) -> Result<(), NoMemory> {
-    entries.push(Entry::Vanished {
-        node: at,
-        ending: Ending::Vanished,
-    })
-}
-
-/// A node inserts the row (2, 20), alone: entries 0 to 5.
-fn one_insert(alloc: Global) -> Result<Items<Entry>, NoMemory> {
-    let mut entries = Items::new(alloc);
-    let one = node(1);
-    begin(&mut entries, one, 1, 1)?;
-    say(
-        &mut entries,
-        one,
-        insert(alloc, 2, 20)?,
-        Answer::Changed(1),
-        false,
-    )?;
-    commit(&mut entries, 1)?;
-    answer(&mut entries, one, Answer::Changed(1))?;
-    Ok(entries)
-}
-
-/// Two nodes insert the row (2, 20) side by side, and the first one commits: entries 0 to 8.
-fn two_inserts(alloc: Global) -> Result<Items<Entry>, NoMemory> {
-    let mut entries = Items::new(alloc);
-    begin(&mut entries, node(1), 1, 1)?;
-    begin(&mut entries, node(2), 2, 1)?;
-    say(
-        &mut entries,
-        node(1),
-        insert(alloc, 2, 20)?,
-        Answer::Changed(1),
-        false,
-    )?;
-    say(
-        &mut entries,
-        node(2),
-        insert(alloc, 2, 21)?,
-        Answer::Changed(1),
-        false,
-    )?;
-    commit(&mut entries, 1)?;
-    entries.push(Entry::Tried { tid: 2 })?;
-    Ok(entries)
 }
 
 /// Where the entries break the machine, if they do. There are less than a thousand.
-fn fault_of(alloc: Global, entries: &Items<Entry>) -> Result<Option<u32>, NoMemory> {
+fn fault_of(alloc: Global, first: &[Line], rest: &[Line]) -> Result<Option<u32>, NoMemory> {
     let setup = setup(alloc)?;
-    if entries.len() > 1000 {
+    let mut entries = Items::new(alloc);
+    for line in first.iter().chain(rest) {
+        entries.push(entry(alloc, *line)?)?;
+    }
+    if entries.len() > 1000 || !keep_keys(&setup.catalog, entries.as_slice()) {
         return Ok(Some(1000));
     }
     match check(alloc, &setup, entries.as_slice()) {
@@ -197,127 +251,176 @@ fn fault_of(alloc: Global, entries: &Items<Entry>) -> Result<Option<u32>, NoMemo
     }
 }
 
-#[test]
-fn an_insert_is_committed_and_answered(rt: HostRuntime) -> Result<(), Fail> {
-    let alloc = rt.alloc();
-    assert_eq!(rt; fault_of(alloc, &one_insert(alloc)?)?, None);
-    let mut untried = Items::new(alloc);
-    begin(&mut untried, node(1), 1, 1)?;
-    say(
-        &mut untried,
-        node(1),
-        insert(alloc, 2, 20)?,
-        Answer::Changed(1),
-        false,
-    )?;
-    untried.push(Entry::Committed { tid: 1 })?;
-    assert_eq!(rt; fault_of(alloc, &untried)?, Some(3));
-    let mut ahead = Items::new(alloc);
-    begin(&mut ahead, node(1), 1, 2)?;
-    assert_eq!(rt; fault_of(alloc, &ahead)?, Some(1));
-    Ok(())
-}
-
-#[test]
-fn a_key_is_inserted_once(rt: HostRuntime) -> Result<(), Fail> {
-    let alloc = rt.alloc();
-    for (told, fault) in [(true, None), (false, Some(8))] {
-        let mut entries = one_insert(alloc)?;
-        begin(&mut entries, node(1), 2, 2)?;
-        let answer_told = if told {
-            Answer::Duplicate
-        } else {
-            Answer::Changed(1)
-        };
-        say(
-            &mut entries,
-            node(1),
-            insert(alloc, 2, 22)?,
-            answer_told,
-            false,
-        )?;
-        assert_eq!(rt; fault_of(alloc, &entries)?, fault);
-    }
-    Ok(())
-}
-
-#[test]
-fn a_select_tells_the_rows_of_its_snapshot(rt: HostRuntime) -> Result<(), Fail> {
-    let alloc = rt.alloc();
-    for (key, value, fault) in [(2, 20, None), (1, 10, Some(8)), (2, 21, Some(8))] {
-        let mut entries = one_insert(alloc)?;
-        begin(&mut entries, node(2), 2, 2)?;
-        say(
-            &mut entries,
-            node(2),
-            select(2),
-            Answer::Rows(one_row(alloc, key, value)?),
-            false,
-        )?;
-        assert_eq!(rt; fault_of(alloc, &entries)?, fault);
-    }
-    Ok(())
-}
-
-#[test]
-fn a_transaction_is_opened_once_and_ended_inside(rt: HostRuntime) -> Result<(), Fail> {
-    let alloc = rt.alloc();
-    let one = node(1);
-    let mut entries = Items::new(alloc);
-    say(&mut entries, one, Bound::Commit, Answer::Outside, true)?;
-    begin(&mut entries, one, 1, 1)?;
-    say(&mut entries, one, Bound::Begin, Answer::Begun, true)?;
-    say(&mut entries, one, Bound::Begin, Answer::Nested, true)?;
-    entries.push(Entry::Undone { tid: 1 })?;
-    answer(&mut entries, one, Answer::RolledBack)?;
-    assert_eq!(rt; fault_of(alloc, &entries)?, None);
-    begin(&mut entries, one, 2, 1)?;
-    say(&mut entries, one, Bound::Begin, Answer::Begun, true)?;
-    say(&mut entries, one, Bound::Rollback, Answer::Outside, true)?;
-    assert_eq!(rt; fault_of(alloc, &entries)?, Some(10));
-    Ok(())
-}
-
-#[test]
-fn of_two_writers_of_a_key_one_commits(rt: HostRuntime) -> Result<(), Fail> {
-    let alloc = rt.alloc();
-    let mut lost = two_inserts(alloc)?;
-    lost.push(Entry::Clash {
-        tid: 2,
-        rival: 1,
-        at: 0,
-    })?;
-    lost.push(Entry::Undone { tid: 2 })?;
-    answer(&mut lost, node(2), Answer::Conflict(1))?;
-    assert_eq!(rt; fault_of(alloc, &lost)?, None);
-    let mut both = two_inserts(alloc)?;
-    both.push(Entry::Committed { tid: 2 })?;
-    assert_eq!(rt; fault_of(alloc, &both)?, Some(9));
-    let mut causeless = two_inserts(alloc)?;
-    causeless.push(Entry::Undone { tid: 2 })?;
-    assert_eq!(rt; fault_of(alloc, &causeless)?, Some(9));
-    Ok(())
-}
-
-#[test]
-fn a_lost_transaction_is_committed_if_it_had_tried(rt: HostRuntime) -> Result<(), Fail> {
-    let alloc = rt.alloc();
-    for (tried, fault) in [(true, None), (false, Some(4))] {
-        let mut entries = Items::new(alloc);
-        begin(&mut entries, node(1), 1, 1)?;
-        say(
-            &mut entries,
-            node(1),
-            insert(alloc, 2, 20)?,
-            Answer::Changed(1),
-            false,
-        )?;
-        if tried {
-            entries.push(Entry::Tried { tid: 1 })?;
+/// The first of these lists that, behind the first lines, breaks elsewhere than is said.
+fn first_wrong(
+    alloc: Global,
+    first: &[Line],
+    cases: &[(&[Line], Option<u32>)],
+) -> Result<Option<usize>, NoMemory> {
+    for (at, (rest, fault)) in cases.iter().enumerate() {
+        if fault_of(alloc, first, rest)? != *fault {
+            return Ok(Some(at));
         }
-        vanish(&mut entries, node(1))?;
-        entries.push(Entry::Committed { tid: 1 })?;
-        assert_eq!(rt; fault_of(alloc, &entries)?, fault);
     }
+    Ok(None)
+}
+
+const ONE_UPDATE: Line = Line::Later(1, Statement::Update(1, 90), Told::Changed(1));
+
+#[test]
+fn an_update_is_committed_once_it_was_tried(rt: HostRuntime) -> Result<(), Fail> {
+    let wrong = first_wrong(
+        rt.alloc(),
+        &[Line::Asked(1)],
+        &[
+            (
+                &[
+                    Line::Began(1, 1, 1),
+                    ONE_UPDATE,
+                    Line::Tried(1),
+                    Line::Committed(1),
+                ],
+                None,
+            ),
+            (
+                &[Line::Began(1, 1, 1), ONE_UPDATE, Line::Committed(1)],
+                Some(3),
+            ),
+            (
+                &[
+                    Line::Began(1, 1, 2),
+                    ONE_UPDATE,
+                    Line::Tried(1),
+                    Line::Committed(1),
+                ],
+                Some(1),
+            ),
+        ],
+    )?;
+    assert_eq!(rt; wrong, None);
+    Ok(())
+}
+
+#[test]
+fn of_two_writers_of_a_record_one_commits(rt: HostRuntime) -> Result<(), Fail> {
+    let wrong = first_wrong(
+        rt.alloc(),
+        &[
+            Line::Asked(1),
+            Line::Began(1, 1, 1),
+            Line::Now(1, Statement::Begin, Told::Begun),
+            Line::Now(1, Statement::Update(1, 90), Told::Changed(1)),
+            Line::Asked(2),
+            Line::Began(2, 2, 1),
+            Line::Now(2, Statement::Begin, Told::Begun),
+            Line::Now(2, Statement::Update(1, 105), Told::Changed(1)),
+            Line::Tried(1),
+            Line::Committed(1),
+            Line::Answered(1, Told::Committed),
+            Line::Tried(2),
+        ],
+        &[
+            (
+                &[
+                    Line::Clash(2, 1),
+                    Line::Undone(2),
+                    Line::Answered(2, Told::Conflict(1)),
+                ],
+                None,
+            ),
+            (&[Line::Committed(2)], Some(12)),
+            (&[Line::Undone(2)], Some(12)),
+            (&[Line::Clash(2, 2)], Some(12)),
+        ],
+    )?;
+    assert_eq!(rt; wrong, None);
+    Ok(())
+}
+
+#[test]
+fn a_transaction_sees_its_snapshot_and_its_own_writes(rt: HostRuntime) -> Result<(), Fail> {
+    let wrong = first_wrong(
+        rt.alloc(),
+        &[
+            Line::Asked(1),
+            Line::Began(1, 1, 1),
+            Line::Now(1, Statement::Begin, Told::Begun),
+            Line::Asked(2),
+            Line::Began(2, 2, 1),
+            Line::Later(2, Statement::Update(1, 7), Told::Changed(1)),
+            Line::Tried(2),
+            Line::Committed(2),
+            Line::Answered(2, Told::Changed(1)),
+        ],
+        &[
+            (&[Line::Now(1, Statement::Read(1), Told::Value(100))], None),
+            (&[Line::Now(1, Statement::Read(1), Told::Value(7))], Some(9)),
+            (
+                &[Line::Now(1, Statement::Insert(1, 1), Told::Duplicate)],
+                None,
+            ),
+            (
+                &[Line::Now(1, Statement::Insert(1, 1), Told::Changed(1))],
+                Some(9),
+            ),
+            (
+                &[
+                    Line::Now(1, Statement::Update(2, 0), Told::Changed(1)),
+                    Line::Now(1, Statement::Read(2), Told::Value(0)),
+                    Line::Tried(1),
+                    Line::Committed(1),
+                    Line::Answered(1, Told::Committed),
+                    Line::Asked(1),
+                    Line::Began(1, 3, 3),
+                    Line::Later(1, Statement::Read(1), Told::Value(7)),
+                ],
+                None,
+            ),
+        ],
+    )?;
+    assert_eq!(rt; wrong, None);
+    Ok(())
+}
+
+#[test]
+fn a_lost_transaction_is_ended_before_its_node_is_recovered(rt: HostRuntime) -> Result<(), Fail> {
+    let wrong = first_wrong(
+        rt.alloc(),
+        &[
+            Line::Asked(1),
+            Line::Began(1, 1, 1),
+            Line::Later(1, Statement::Update(1, 7), Told::Changed(1)),
+            Line::Tried(1),
+            Line::Vanished(1),
+        ],
+        &[
+            (
+                &[
+                    Line::Committed(1),
+                    Line::Now(2, Statement::Recover(1), Told::Recovered(1)),
+                    Line::Asked(2),
+                    Line::Began(2, 2, 2),
+                    Line::Later(2, Statement::Read(1), Told::Value(7)),
+                ],
+                None,
+            ),
+            (
+                &[
+                    Line::Undone(1),
+                    Line::Now(2, Statement::Recover(1), Told::Recovered(1)),
+                    Line::Asked(2),
+                    Line::Began(2, 2, 1),
+                    Line::Later(2, Statement::Read(1), Told::Value(100)),
+                ],
+                None,
+            ),
+            (
+                &[Line::Now(2, Statement::Recover(1), Told::Recovered(1))],
+                Some(5),
+            ),
+            (&[Line::Asked(1)], Some(5)),
+        ],
+    )?;
+    assert_eq!(rt; wrong, None);
     Ok(())
 }
