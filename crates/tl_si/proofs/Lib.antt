@@ -11,4 +11,7 @@ pub mod Homes
 pub mod Stays
 pub mod Alone
 pub mod Sayings
+pub mod Endings
+pub mod Queries
+pub mod Changes
 pub mod Entries

@@ -23,7 +23,7 @@ rows_same a b h = slice_cmp-IsAntisymmetric row_exact a b (equal (slice_cmp row_
 same_row_itself : (o : Ordering) → o ≡ Equal → is_eq o ≡ true
 same_row_itself o e = ap is_eq e
 
-rows_itself : (a : List (List Value)) → same_rows a a ≡ true
+pub rows_itself : (a : List (List Value)) → same_rows a a ≡ true
 rows_itself a = same_row_itself (slice_cmp row_cmp a a) (tied a)
   where
     tied : (a : List (List Value)) → slice_cmp row_cmp a a ≡ Equal

@@ -179,7 +179,7 @@ module _ (catalog : Catalog) where
         (sym (map_tids (λ (h : Transaction). if h.tid == (f t).tid then f t else h) (put_tid (f t)) s.held)) v.begun;
   }
 
-  own_of : (s : SiState) → IsSound catalog s → (p : Transaction → Bool) (t : Transaction) → find p s.held ≡ Some t → IsOwn t
+  pub own_of : (s : SiState) → IsSound catalog s → (p : Transaction → Bool) (t : Transaction) → find p s.held ≡ Some t → IsOwn t
   own_of s v p t e = found IsOwn p s.held t v.own e
 
   without_sound : (s : SiState) (tid : ℕ) → IsSound catalog s → IsSound catalog (record s { held = without_held tid s.held })
@@ -219,7 +219,7 @@ module _ (catalog : Catalog) where
   forget_sound s node false v = v
 
   -- statements
-  view_home : (s : SiState) (t : Transaction) → IsSound catalog s → IsOwn t → Rattle.tl_si.specs.Sound.AreHome catalog (view_of s t)
+  pub view_home : (s : SiState) (t : Transaction) → IsSound catalog s → IsOwn t → Rattle.tl_si.specs.Sound.AreHome catalog (view_of s t)
   view_home s t v i =
       laid_home catalog (tables_after (take t.first s.commits)) t.own
       (tables_home catalog _ (take t.first s.commits) (empty_home catalog) (all_take IsCommitted t.first s.commits v.committed)) i
@@ -242,7 +242,7 @@ module _ (catalog : Catalog) where
   own_home s t edit (Ok effect) e v i k = puts_home catalog effect.writes t.own (change_home catalog edit (view_of s t) t.own effect (view_home s t v i) k e) i
   own_home s t edit (Err refusal) e v i k = i
 
-  said_tid : (s : SiState) (b : Bound) (said : Said) (t : Transaction) → (take_statement catalog s b said t).tid ≡ t.tid
+  pub said_tid : (s : SiState) (b : Bound) (said : Said) (t : Transaction) → (take_statement catalog s b said t).tid ≡ t.tid
   said_tid s bound.Begin said t = opened_tid t
   said_tid s bound.Commit said t = refl
   said_tid s bound.Rollback said t = refl

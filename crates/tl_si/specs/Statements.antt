@@ -1,6 +1,9 @@
 -- What one statement makes of the state that is kept.
 use Rattle.std.specs.Prelude.{◌≡◌, ℕ, Bool, true, false, not, ◌&&◌, ◌||◌, Option, Some, None, List, Result, Ok, Err, take}
 use Rattle.tl_schema.specs.declared.catalog.Catalog.{Catalog}
+use Rattle.tl_write.specs.declared.fault.ChangeFault.{ChangeFault}
+use Rattle.tl_write.specs.declared.fault.ChangeFault.TheVariants as fault
+use Rattle.tl_write.specs.declared.write.Effect.{Effect}
 use Rattle.tl_write.specs.Tables.{Tables, laid_over}
 use Rattle.tl_isolation.specs.declared.bound.Bound.{Bound}
 use Rattle.tl_isolation.specs.declared.entry.Said.{Said}
@@ -19,6 +22,11 @@ use Rattle.tl_si.specs.Shown.{shown}
 -- what a transaction sees after these commits
 abbrev pub view : List Commit → Transaction → Tables
 view commits t = laid_over (tables_after (take t.first commits)) t.own
+
+-- whether memory was wanting
+abbrev pub wants_memory : Result Effect ChangeFault → Bool
+wants_memory (Err fault.NoMemory) = true
+wants_memory effect = false
 
 -- what may be answered to BEGIN
 abbrev pub may_answer_begin : Transaction → Answer → Bool

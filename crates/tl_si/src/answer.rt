@@ -80,6 +80,13 @@ pub fn tells_rows(told: &Answer, rows: &Rows) -> bool
     }
 }
 
+/// Whether an overflow is told.
+pub fn tells_overflow(told: &Answer) -> bool
+    ensures { result ≡ same.is_overflow told.now }
+{
+    matches!(told, Answer::Overflow)
+}
+
 /// Whether a change is told, of so many rows.
 pub fn tells_count(told: &Answer, count: u32) -> bool
     ensures { result ≡ same.tells_count told.now count }

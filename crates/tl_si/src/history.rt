@@ -113,7 +113,6 @@ fn leave(columns: &[u8], sets: &[SetColumn]) -> bool
 fn step(alloc: Global, catalog: &Catalog, state: &mut State, entry: &Entry) -> Result<(), Stop>
     requires few { length state.old.commits < 2 ^ 32 }
     requires sound { IsSound catalog.now (shown state.old) }
-    requires key { IsTrue (keeps_key catalog.now entry.now) }
     ensures { Stepped catalog.now state.old entry.now result state.new }
 {
     match entry {

@@ -7,7 +7,7 @@ ghost use Rattle.tl_isolation.specs.declared.entry.Said.{Said};
 ghost use Rattle.tl_isolation.specs.State as si;
 ghost use Rattle.tl_isolation.specs.Step as step;
 ghost use Rattle.tl_si.specs.Shown.{shown};
-ghost use Rattle.tl_si.specs.Sound.{AreAlone, IsSound, statement_keeps};
+ghost use Rattle.tl_si.specs.Sound.{AreAlone, IsSound};
 ghost use Rattle.tl_si.specs.Statements as statements;
 ghost use Rattle.tl_si.specs.Statements.{Taken};
 ghost use Rattle.tl_si.specs.Stops.{Stepped};
@@ -33,8 +33,7 @@ pub fn say(
     bound: &Bound,
     said: &Said,
 ) -> Result<(), Stop>
-    requires sound { IsSound catalog.now (shown state.old) }
-    requires key { IsTrue (statement_keeps catalog.now bound.now) }
+    requires { IsSound catalog.now (shown state.old) }
     ensures { Stepped catalog.now state.old (Entry.Said node bound.now said.now) result state.new }
 {
     if state.vanished.contains(node) {
@@ -55,8 +54,7 @@ fn take_statement(
     bound: &Bound,
     said: &Said,
 ) -> Result<(), Stop>
-    requires sound { IsSound catalog.now (shown state.old) }
-    requires key { IsTrue (statement_keeps catalog.now bound.now) }
+    requires { IsSound catalog.now (shown state.old) }
     ensures { Taken catalog.now state.old node bound.now said.now result state.new }
 {
     match bound {

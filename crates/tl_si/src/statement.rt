@@ -7,10 +7,10 @@ ghost use Rattle.tl_write.specs.Own.{put_writes};
 ghost use Rattle.tl_isolation.specs.Meaning as meaning;
 ghost use Rattle.tl_isolation.specs.Step as step;
 ghost use Rattle.tl_si.specs.Shown.{shown};
-ghost use Rattle.tl_si.specs.Sound.{AreAlone, IsSound, change_keeps};
+ghost use Rattle.tl_si.specs.Sound.{AreAlone, AreHome, IsSound};
 ghost use Rattle.tl_si.specs.Statements as statements;
 
-use crate::answer::{copy_answer, tells_count, tells_rows};
+use crate::answer::{copy_answer, tells_count, tells_overflow, tells_rows};
 use crate::held::Held;
 use crate::past::Past;
 use crate::seen::{rows_seen, tables_seen};
@@ -60,7 +60,7 @@ fn tells_query(
     select_has_one_answer();
     match rows_of(alloc, query, tables.as_slice()) {
         Ok(rows) => Ok(tells_rows(told, &rows)),
-        Err(ValueFault::Overflow) => Ok(matches!(told, Answer::Overflow)),
+        Err(ValueFault::Overflow) => Ok(tells_overflow(told)),
         Err(ValueFault::NoMemory) => Err(NoMemory),
     }
 }
@@ -88,8 +88,7 @@ pub fn take_change(
     edit: &Edit,
     said: &Said,
 ) -> Result<(), Stop>
-    requires sound { IsSound catalog.now (shown state.old) }
-    requires key { IsTrue (change_keeps catalog.now edit.now) }
+    requires { IsSound catalog.now (shown state.old) }
     ensures { statements.Taken catalog.now state.old node (Bound.Change edit.now) said.now result state.new }
 {
     let Some((at, t)) = state.take_by(node) else {
@@ -115,6 +114,7 @@ fn effect_on(
     past: &Past,
     t: &Held,
 ) -> Result<Result<Effect, ChangeFault>, NoMemory>
+    requires { AreHome catalog.now (statements.view past.now t.now) }
     ensures { IfOk result (λ effect. effect ≡ meaning.change_of catalog.now edit.now (statements.view past.now t.now) t.now.own) }
 {
     let none = no_table(alloc)?;
@@ -122,10 +122,17 @@ fn effect_on(
     let table = table_of(catalog, number, &none);
     let view = rows_seen(alloc, number, past, t.first, &t.own)?;
     rows_suffice();
-    match change(alloc, edit, table, &view, &t.own) {
-        Err(ChangeFault::NoMemory) => Err(NoMemory),
-        effect => Ok(effect),
+    let effect = change(alloc, edit, table, &view, &t.own);
+    if wants_memory(&effect) {
+        return Err(NoMemory);
     }
+    Ok(effect)
+}
+
+fn wants_memory(effect: &Result<Effect, ChangeFault>) -> bool
+    ensures { result ≡ statements.wants_memory effect.now }
+{
+    matches!(effect, Err(ChangeFault::NoMemory))
 }
 
 fn number_of(edit: &Edit) -> u8
