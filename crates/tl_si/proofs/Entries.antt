@@ -69,10 +69,10 @@ commits_after catalog s (entry.Began node tid first) = omega arith
 commits_after catalog s (entry.Said node bound said) =
     let taken : SiState = with_held (held_by node s.held) (take_statement catalog s bound said) s in
     none_more (forget_note node said.answered taken) s (noted_keeps said.answered node taken ∙ held_keeps (held_by node s.held) (take_statement catalog s bound said) s)
-commits_after catalog s (entry.Tried tid) = none_more _ s (held_keeps (held_as tid s.held) try_commit s)
-commits_after catalog s (entry.Clash tid rival at) = none_more _ s (held_keeps (held_as tid s.held) (meet_rival rival) s)
+commits_after catalog s (entry.Tried tid) = none_more (after catalog s (entry.Tried tid)) s (held_keeps (held_as tid s.held) try_commit s)
+commits_after catalog s (entry.Clash tid rival at) = none_more (after catalog s (entry.Clash tid rival at)) s (held_keeps (held_as tid s.held) (meet_rival rival) s)
 commits_after catalog s (entry.Committed tid) = commit_more (held_as tid s.held) s
-commits_after catalog s (entry.Undone tid) = none_more _ s (undo_keeps (held_as tid s.held) s)
+commits_after catalog s (entry.Undone tid) = none_more (after catalog s (entry.Undone tid)) s (undo_keeps (held_as tid s.held) s)
 commits_after catalog s (entry.Answered node statement told) = omega arith
 commits_after catalog s (entry.Vanished node ending) = omega arith
 

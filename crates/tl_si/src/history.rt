@@ -1,8 +1,9 @@
 //! The check of a history.
 
 ghost use Rattle.std.specs.List.{list_any};
-ghost use Rattle.std.specs.Prelude.{IsTrue, not, ◌==◌, ◌≡◌, ◌<◌, ◌^◌, IfErr, IfOk, OnOk, length};
+ghost use Rattle.std.specs.Prelude.{IsTrue, ◌==◌, ◌≡◌, ◌<◌, ◌^◌, IfErr, IfOk, OnOk, length};
 ghost use Rattle.tl_isolation.specs.History as history;
+ghost use Rattle.tl_isolation.specs.Tables.{table_of};
 ghost use Rattle.tl_si.specs.Faults.{IsFault};
 ghost use Rattle.tl_si.specs.Shown.{shown};
 ghost use Rattle.tl_si.specs.Sound.{IsSound, change_keeps, keep_keys, keeps_key, statement_keeps};
@@ -92,21 +93,32 @@ fn change_keeps(catalog: &Catalog, edit: &Edit) -> bool
     ensures { result ≡ change_keeps catalog.now edit.now }
 {
     match edit {
-        Edit::Update { table, sets, .. } => match catalog.tables.get(usize::from(*table)) {
-            Some(table) => leave(table.key.as_slice(), sets.as_slice()),
-            None => true,
-        },
+        Edit::Update { table, sets, .. } => !set_any(key_of(catalog, *table), sets.as_slice()),
         Edit::Insert { .. } | Edit::Delete { .. } => true,
     }
 }
 
-/// Whether none of the columns is set.
-fn leave(columns: &[u8], sets: &[SetColumn]) -> bool
-    ensures { result ≡ not (list_any (λ set. list_any (λ place. place == set.column) columns.now) sets.now) }
+/// The columns of the primary key of the table of this number, and none where there is no such table.
+fn key_of(catalog: &Catalog, number: u8) -> &[u8]
+    ensures { result.now ≡ (table_of catalog.now number).key }
 {
-    !sets
-        .iter()
-        .any(|set| columns.iter().any(|place| *place == set.column))
+    match catalog.tables.get(usize::from(number)) {
+        Some(table) => table.key.as_slice(),
+        None => &[],
+    }
+}
+
+/// Whether one of the columns is set.
+fn set_any(columns: &[u8], sets: &[SetColumn]) -> bool
+    ensures { result ≡ list_any (λ set. list_any (λ place. place == set.column) columns.now) sets.now }
+{
+    sets.iter().any(|set| is_among(set, columns))
+}
+
+fn is_among(set: &SetColumn, columns: &[u8]) -> bool
+    ensures { result ≡ list_any (λ place. place == set.now.column) columns.now }
+{
+    columns.iter().any(|place| *place == set.column)
 }
 
 /// One entry more.
