@@ -10,47 +10,30 @@ use Rattle.tl_isolation.specs.Step.{with_held}
 use Rattle.tl_si.specs.declared.state.State.{State}
 use Rattle.tl_si.specs.Shown.{IsOut, shown}
 use Rattle.tl_si.specs.Sound.{AreAlone, AreDistinct, tids}
-
-some_same : {X : Type 0} (x y : X) → Some x ≡ Some y → x ≡ y
-some_same x y e = cc
+use Rattle.tl_si.proofs.Logic.{first_false, never, second_false, some_same}
 
 -- where no other has the number nothing is put
 unput : (t : Transaction) (n : ℕ) (held : List Transaction) → t.tid ≡ n → list_any (λ m. m == n) (tids held) ≡ false → put_held t held ≡ held
 unput t n [] e h = refl
-unput t n (x ∷ xs) e h = λ i. apart (x.tid == t.tid) (ap (λ (k : ℕ). x.tid == k) e ∙ first (x.tid == n) (list_any (λ m. m == n) (tids xs)) h) i ∷ unput t n xs e (second (x.tid == n) (list_any (λ m. m == n) (tids xs)) h) i
+unput t n (x ∷ xs) e h = λ i. apart (x.tid == t.tid) (ap (λ (k : ℕ). x.tid == k) e ∙ first_false (x.tid == n) (list_any (λ m. m == n) (tids xs)) h) i ∷ unput t n xs e (second_false (x.tid == n) (list_any (λ m. m == n) (tids xs)) h) i
   where
     apart : (b : Bool) → b ≡ false → (if b then t else x) ≡ x
     apart true e = absurd cc
     apart false e = refl
-
-    first : (a b : Bool) → (a || b) ≡ false → a ≡ false
-    first true b e = e
-    first false b e = refl
-
-    second : (a b : Bool) → (a || b) ≡ false → b ≡ false
-    second true b e = absurd cc
-    second false b e = e
 
 -- the number of one further back isn't that of the first
 behind : (n : ℕ) (held : List Transaction) (at : ℕ) (t : Transaction) → list_any (λ m. m == n) (tids held) ≡ false → slice_get held at ≡ Some t → (n == t.tid) ≡ false
 behind n [] at t h e = absurd cc
 behind n (x ∷ xs) zero t h e = subst (λ (y : Transaction). (n == y.tid) ≡ false) (some_same x t e) (turned (x.tid == n) refl (list_any (λ m. m == n) (tids xs)) h)
   where
-    clash : (b : Bool) → b ≡ true → b ≡ false → ⊥
-    clash b e f = cc
-
     other : (b : Bool) → (n == x.tid) ≡ b → (x.tid == n) ≡ false → (n == x.tid) ≡ false
-    other true i o = absurd (clash (x.tid == n) (eq-eqb x.tid n (sym (eqb-true n x.tid i))) o)
+    other true i o = absurd (never (x.tid == n) o (eq-eqb x.tid n (sym (eqb-true n x.tid i))))
     other false i o = i
 
     turned : (b : Bool) → (x.tid == n) ≡ b → (c : Bool) → ((x.tid == n) || c) ≡ false → (n == x.tid) ≡ false
-    turned true i c h = absurd (clash ((x.tid == n) || c) (ap (λ (b : Bool). b || c) i) h)
+    turned true i c h = absurd (never ((x.tid == n) || c) h (ap (λ (b : Bool). b || c) i))
     turned false i c h = other (n == x.tid) refl i
-behind n (x ∷ xs) (suc at) t h e = behind n xs at t (second (x.tid == n) (list_any (λ m. m == n) (tids xs)) h) e
-  where
-    second : (a b : Bool) → (a || b) ≡ false → b ≡ false
-    second true b e = absurd cc
-    second false b e = e
+behind n (x ∷ xs) (suc at) t h e = behind n xs at t (second_false (x.tid == n) (list_any (λ m. m == n) (tids xs)) h) e
 
 chosen : (b : Bool) (t x : Transaction) → b ≡ true → (if b then t else x) ≡ t
 chosen true t x e = refl
@@ -71,16 +54,12 @@ put_at (x ∷ xs) (suc at) t changed a e k =
     let kept = sym (unchosen (x.tid == changed.tid) changed x apart) in
     λ i. kept i ∷ put_at xs at t changed a.1 e k i
 
-second : (a b : Bool) → (a || b) ≡ false → b ≡ false
-second true b e = absurd cc
-second false b e = e
-
 -- nor is that of one found further back
 named : (p : Transaction → Bool) (n : ℕ) (held : List Transaction) (t : Transaction) → find p held ≡ Some t → list_any (λ m. m == n) (tids held) ≡ false → (n == t.tid) ≡ false
 named p n [] t e h = absurd cc
 named p n (y ∷ ys) t e h = elim (p y) as (λ b. cond b (Some y) (find p ys) ≡ Some t → (n == t.tid) ≡ false) [
   | true ↦ λ e. behind n (y ∷ ys) 0 t h e
-  | false ↦ λ e. named p n ys t e (second (y.tid == n) (list_any (λ m. m == n) (tids ys)) h)
+  | false ↦ λ e. named p n ys t e (second_false (y.tid == n) (list_any (λ m. m == n) (tids ys)) h)
 ] e
 
 -- a transaction in its own place

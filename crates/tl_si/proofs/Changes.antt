@@ -106,10 +106,10 @@ effect_is suffice catalog edit commits u t number table rows effect home e n b r
     told_so effect (change.change_of edit table (tables_of (number_of edit) table rows) u.own) w tells
     ∙ ap (λ (x : Table). change.change_of edit x (tables_of (number_of edit) x rows) u.own) (b ∙ ap (table_of catalog) n)
     ∙ ap (λ (rs : List Row). change.change_of edit (table_of catalog (number_of edit)) (tables_of (number_of edit) (table_of catalog (number_of edit)) rs) u.own)
-      (r ∙ ap (λ (m : ℕ). rows_in m (view commits u)) n)
+    (r ∙ ap (λ (m : ℕ). rows_in m (view commits u)) n)
     ∙ ap (λ (v : Transaction). change.change_of edit (table_of catalog (number_of edit)) (tables_of (number_of edit) (table_of catalog (number_of edit)) (rows_in (number_of edit) (view commits v))) v.own) e
     ∙ suffice edit (table_of catalog (number_of edit)) (rows_in (number_of edit) (view commits t)) (view commits t) t.own
-      (each_stands catalog (number_of edit) (view commits t) home) (looks catalog edit (view commits t) home)
+    (each_stands catalog (number_of edit) (view commits t) home) (looks catalog edit (view commits t) home)
 
 -- an answer that is kept leaves the own writes
 pub kept_own : (told : Answer) (answered : Bool) (t : Transaction) → (keep_answer told answered t).own ≡ t.own

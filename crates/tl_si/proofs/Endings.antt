@@ -1,7 +1,7 @@
 -- What a commit and an undoing leave.
 use Rattle.std.proofs.Common.{◌≡◌, ℕ, ◌==◌, ◌&&◌, Bool, true, false, List, [], ◌∷◌, ◌++◌, Option, Some, None, refl, sym, ap, subst, ◌∙◌}
 use Rattle.std.specs.Prelude.{remove, if◌then◌else◌}
-use Rattle.std.proofs.lemmas.Bool.{eqb-true}
+use Rattle.std.proofs.lemmas.Bool.{and_parts, eqb-true}
 use Rattle.tl_write.specs.declared.write.Write.{Write}
 use Rattle.tl_isolation.specs.declared.entry.Answer.{Answer}
 use Rattle.tl_isolation.specs.declared.state.Commit.{Commit}
@@ -15,9 +15,7 @@ use Rattle.tl_si.specs.Ends.{ended}
 use Rattle.tl_si.specs.Shown.{IsOut, shown}
 use Rattle.tl_si.proofs.Alone.{without_out}
 use Rattle.tl_si.proofs.Find.{passes}
-
-some_same : {X : Type 0} (x y : X) → Some x ≡ Some y → x ≡ y
-some_same x y e = cc
+use Rattle.tl_si.proofs.Logic.{both, some_same}
 
 module _ (tid : ℕ) (old mid : State) (at : ℕ) (t : Transaction) (out : IsOut (λ (t : Transaction). t.tid == tid) old at t mid) where
   its_number : t.tid ≡ tid
@@ -29,7 +27,7 @@ module _ (tid : ℕ) (old mid : State) (at : ℕ) (t : Transaction) (out : IsOut
   ended_is told commits =
       ap (λ (s : SiState). ended tid t.node t.phase told (record s { commits = commits })) out.rest
       ∙ ap (λ (held : List Transaction). end_left held)
-        (ap (λ (n : ℕ). without_held n (remove old.held.items at)) (sym its_number) ∙ without_out old.held.items at t out.here)
+      (ap (λ (n : ℕ). without_held n (remove old.held.items at)) (sym its_number) ∙ without_out old.held.items at t out.here)
     where
       end_left : List Transaction → SiState
       end_left held =
@@ -58,26 +56,18 @@ module _ (tid : ℕ) (old mid : State) (at : ℕ) (t : Transaction) (out : IsOut
       ∙ ap (λ (n : ℕ). old.commits ++ record { tid = n; writes = t.own } ∷ []) (sym its_number))
       ∙ ap (λ (o : Option Transaction). commit o (shown old)) (sym out.first)
 
-  both : (a b : Bool) → (a && b) ≡ true → (a ≡ true) × (b ≡ true)
-  both true b e = (refl, e)
-  both false b e = absurd cc
-
-  from : (a b : Bool) → a ≡ true → b ≡ true → (a && b) ≡ true
-  from true b e f = f
-  from false b e f = absurd cc
-
   pub may_commit_is : (may : Bool) → ((s : SiState) → s.commits ≡ mid.commits → may ≡ (is_ready t && is_alone s t)) → may ≡ true → IsHeld (shown old) tid (MayCommit (shown old))
-  may_commit_is may h e = (t, out.first, both (is_ready t) (is_alone (shown old) t) (sym (h (shown old) (sym (ap (λ (s : SiState). s.commits) out.rest))) ∙ e))
+  may_commit_is may h e = (t, out.first, and_parts (is_ready t) (is_alone (shown old) t) (sym (h (shown old) (sym (ap (λ (s : SiState). s.commits) out.rest))) ∙ e))
 
   pub only_commit : (may : Bool) → ((s : SiState) → s.commits ≡ mid.commits → may ≡ (is_ready t && is_alone s t)) → IsHeld (shown old) tid (MayCommit (shown old)) → may ≡ true
   only_commit may h (x, e, k) =
       let same : x ≡ t = some_same x t (sym e ∙ out.first) in
       h (shown old) (sym (ap (λ (s : SiState). s.commits) out.rest))
-      ∙ from (is_ready t) (is_alone (shown old) t) (subst (λ (y : Transaction). is_ready y ≡ true) same k.0) (subst (λ (y : Transaction). is_alone (shown old) y ≡ true) same k.1)
+      ∙ both (is_ready t) (is_alone (shown old) t) (subst (λ (y : Transaction). is_ready y ≡ true) same k.0) (subst (λ (y : Transaction). is_alone (shown old) y ≡ true) same k.1)
 
 -- a transaction more
 pub began_is : (s : SiState) (node tid first : ℕ) (begun : List ℕ) (held : List Transaction) (nodes : List NodeState) → begun ≡ s.begun ++ tid ∷ []
     → held ≡ s.held ++ begin node tid first ∷ [] → nodes ≡ put_node (record (node_of node s.nodes) { noted = None }) s.nodes
     → ◌≡◌ {A = SiState} (record { commits = s.commits; begun = begun; vanished = s.vanished; held = held; nodes = nodes })
-      (with_noted node None (record s { begun = s.begun ++ tid ∷ []; held = s.held ++ begin node tid first ∷ [] }))
+    (with_noted node None (record s { begun = s.begun ++ tid ∷ []; held = s.held ++ begin node tid first ∷ [] }))
 began_is s node tid first begun held nodes b h n = λ i. record { commits = s.commits; begun = b i; vanished = s.vanished; held = h i; nodes = n i }

@@ -5,9 +5,7 @@ use Rattle.std.specs.List.{position_or_len}
 use Rattle.std.proofs.lemmas.Bool.{ltb-true, ltb-false}
 use Rattle.std.proofs.lemmas.List.Folds.{find_at}
 use Rattle.std.proofs.lemmas.Option.{slice_get_past, slice_get_read}
-
-some_same : {A : Type 0} (y x : A) → Some y ≡ Some x → y ≡ x
-some_same y x e = cc
+use Rattle.tl_si.proofs.Logic.{some_same}
 
 -- this is the place of the first that passes, if one does
 abbrev pub MaybePlace : {A : Type 0} → Option ℕ → (A → Bool) → List A → Type 0

@@ -35,15 +35,13 @@ use Rattle.tl_isolation.specs.State.{tables_from}
 use Rattle.tl_isolation.specs.Tables.{keeps_key, opening_writes, table_of}
 use Rattle.tl_si.specs.Sound.{AreHome, AreHomeWrites, IsHome, IsHomeWrite}
 use Rattle.tl_si.proofs.Laid.{Key, Row, get_laid, over, tie, written}
+use Rattle.tl_si.proofs.Logic.{none_below, some_same}
 
 -- what a change needs: SET leaves the columns of the primary key
 abbrev pub Keeps : Catalog → Edit → Type 0
 Keeps catalog (Insert number rows) = Unit {0}
 Keeps catalog (Update number sets condition) = keeps_key (table_of catalog number) sets ≡ true
 Keeps catalog (Delete number condition) = Unit {0}
-
-some_same : {X : Type 0} (x y : X) → Some x ≡ Some y → x ≡ y
-some_same x y e = cc
 
 module _ (catalog : Catalog) where
   -- the row of a table stands under its record key, and under no other
@@ -112,18 +110,6 @@ module _ (catalog : Catalog) where
     where
       none_some : ◌≡◌ {A = Option Row} None (Some row) → ⊥
       none_some e = cc
-
--- a key below each of these has no entry
-none_below : (k : Key) (es : List (Key × Row)) → below_all key_cmp k es ≡ true → find key_cmp k es ≡ None
-none_below k [] h = refl
-none_below k (e ∷ es) h =
-    let parts = and_parts (is_lt (key_cmp k e.0)) (below_all key_cmp k es) h in
-    ap (λ (b : Bool). cond b (Some e.1) (find key_cmp k es)) (apart (key_cmp k e.0) parts.0) ∙ none_below k es parts.1
-  where
-    apart : (o : Ordering) → is_lt o ≡ true → is_eq o ≡ false
-    apart Less i = refl
-    apart Equal i = absurd cc
-    apart Greater i = absurd cc
 
 -- what is so of each look-up is so of each entry
 pub listed : (P : Key → Row → Type 0) (es : List (Key × Row)) → is_sorted key_cmp es ≡ true

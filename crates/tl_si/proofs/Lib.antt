@@ -1,3 +1,4 @@
+pub mod Logic
 pub mod Ties
 pub mod Find
 pub mod InHand

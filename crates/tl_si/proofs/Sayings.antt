@@ -12,21 +12,7 @@ use Rattle.tl_isolation.specs.State.{held_by, is_fresh, is_lost, is_open}
 use Rattle.tl_isolation.specs.Step.{MaySay}
 use Rattle.tl_si.specs.Answers.{tells_recovered, tells_there}
 use Rattle.tl_si.specs.Statements.{may_answer_begin, may_answer_recover}
-
-some_same : {X : Type 0} (x y : X) → Some x ≡ Some y → x ≡ y
-some_same x y e = cc
-
-left : (a b : Bool) → (a && b) ≡ true → a ≡ true
-left true b h = refl
-left false b h = absurd cc
-
-right : (a b : Bool) → (a && b) ≡ true → b ≡ true
-right true b h = h
-right false b h = absurd cc
-
-both : (a b : Bool) → a ≡ true → b ≡ true → (a && b) ≡ true
-both true b e f = f
-both false b e f = absurd cc
+use Rattle.tl_si.proofs.Logic.{both, left, right, some_same}
 
 or_false : (a : Bool) → (a || false) ≡ true → a ≡ true
 or_false true h = refl
@@ -92,10 +78,3 @@ module _ (catalog : Catalog) (s : SiState) (node : ℕ) (answered : Bool) where
     pub recover_only : (told : Answer) → MaySay catalog s node (bound.Recover gone) told answered
         → (answered ≡ true) × (may_answer_recover (held_by node s.held) lost gone told ≡ true)
     recover_only told h = recover_only_by (held_by node s.held) refl told h
-
-pub never : (b : Bool) → b ≡ false → b ≡ true → ⊥
-never b e f = clash b e f
-  where
-    clash : (b : Bool) → b ≡ false → b ≡ true → ⊥
-    clash true e f = cc
-    clash false e f = cc

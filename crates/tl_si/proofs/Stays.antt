@@ -23,9 +23,7 @@ use Rattle.tl_isolation.specs.State.{held_as, held_by, is_fresh, is_lost, openin
 use Rattle.tl_isolation.specs.Step.{Allowed, after, begin, commit, commit_answer, effect_on, end_with, forget_note, keep_answer, lose, meet_rival, open_by_begin, own_after, take_statement, try_commit, undo, undo_answer, with_held}
 use Rattle.tl_si.specs.Sound.{AreDistinct, AreHomeWrites, IsSound, keeps_key, statement_keeps, tids}
 use Rattle.tl_si.proofs.Homes.{Keeps, all_filter, all_map, change_home, empty_home, laid_home, opening_home, puts_home, tables_home}
-
-some_same : {X : Type 0} (y x : X) → Some y ≡ Some x → y ≡ x
-some_same y x e = cc
+use Rattle.tl_si.proofs.Logic.{never, second_false, some_same}
 
 -- lists
 pub found : {X : Type 0} (P : X → Type 0) (p : X → Bool) (xs : List X) (x : X) → AllByRecursion P xs → find p xs ≡ Some x → P x
@@ -51,8 +49,6 @@ weaker P Q f [] h = tt
 weaker P Q f (x ∷ xs) h = (f x h.0, weaker P Q f xs h.1)
 
 -- numbers
-among : (begun : List ℕ) (n : ℕ) → Type 0
-among begun n = list_any (λ b. b == n) begun ≡ true
 
 push_tids : (held : List Transaction) (t : Transaction) → tids (held ++ t ∷ []) ≡ tids held ++ t.tid ∷ []
 push_tids [] t = refl
@@ -61,11 +57,8 @@ push_tids (h ∷ held) t = ap (λ (ns : List ℕ). h.tid ∷ ns) (push_tids held
 other : (begun : List ℕ) (m n : ℕ) → list_any (λ b. b == m) begun ≡ true → list_any (λ b. b == n) begun ≡ false → (n == m) ≡ false
 other begun m n i o = by (n == m) refl
   where
-    clash : (b : Bool) → b ≡ true → b ≡ false → ⊥
-    clash b e f = cc
-
     by : (b : Bool) → (n == m) ≡ b → (n == m) ≡ false
-    by true e = absurd (clash (list_any (λ b. b == m) begun) i (ap (λ (k : ℕ). list_any (λ b. b == k) begun) (sym (eqb-true n m e)) ∙ o))
+    by true e = absurd (never (list_any (λ b. b == m) begun) (ap (λ (k : ℕ). list_any (λ b. b == k) begun) (sym (eqb-true n m e)) ∙ o) i)
     by false e = e
 
 distinct_push : (begun ns : List ℕ) (n : ℕ) → AreDistinct ns → AllByRecursion (λ m. list_any (λ b. b == m) begun ≡ true) ns → list_any (λ b. b == n) begun ≡ false
@@ -102,13 +95,9 @@ filter_any p n [] h = refl
 filter_any p n (m ∷ ns) h =
     elim (p m) as (λ b. list_any (λ k. k == n) (cond b (m ∷ filter p ns) (filter p ns)) ≡ false) [
       | true ↦ both (m == n) (list_any (λ k. k == n) ns) (list_any (λ k. k == n) (filter p ns)) h (filter_any p n ns)
-      | false ↦ filter_any p n ns (second (m == n) (list_any (λ k. k == n) ns) h)
+      | false ↦ filter_any p n ns (second_false (m == n) (list_any (λ k. k == n) ns) h)
     ]
   where
-    second : (a b : Bool) → (a || b) ≡ false → b ≡ false
-    second true b e = absurd cc
-    second false b e = e
-
     both : (a b c : Bool) → (a || b) ≡ false → (b ≡ false → c ≡ false) → (a || c) ≡ false
     both true b c e f = absurd cc
     both false b c e f = f e

@@ -15,18 +15,7 @@ use Rattle.tl_si.specs.declared.past.Place.{Place}
 use Rattle.tl_si.specs.Places.{AreFound, Records, above, places_of, row_after, same_key, with_record, with_records, with_row}
 use Rattle.tl_si.proofs.Laid.{Key, Row, equal_keys, tie}
 use Rattle.tl_si.proofs.Rows.{row_is}
-
--- a key below each of these has no entry
-none_below : (k : Key) (es : List (Key × List Place)) → below_all key_cmp k es ≡ true → find key_cmp k es ≡ None
-none_below k [] h = refl
-none_below k (e ∷ es) h =
-    let parts = and_parts (is_lt (key_cmp k e.0)) (below_all key_cmp k es) h in
-    ap (λ (b : Bool). cond b (Some e.1) (find key_cmp k es)) (apart (key_cmp k e.0) parts.0) ∙ none_below k es parts.1
-  where
-    apart : (o : Ordering) → is_lt o ≡ true → is_eq o ≡ false
-    apart Less i = refl
-    apart Equal i = absurd cc
-    apart Greater i = absurd cc
+use Rattle.tl_si.proofs.Logic.{both, none_below}
 
 module _ (number : ℕ) (commits : List Commit) (first : ℕ) where
   -- the row at the found places, over the one before
@@ -144,11 +133,6 @@ covers number (k ∷ n ∷ rest) e =
     parts true true e = (refl, refl)
     parts true false e = absurd cc
     parts false b e = absurd cc
-
-    both : (a b : Bool) → a ≡ true → b ≡ true → (a && b) ≡ true
-    both true true e f = refl
-    both true false e f = absurd cc
-    both false b e f = absurd cc
 
     short : (rest : Key) → is_le (key_cmp [] rest) ≡ true
     short [] = refl

@@ -1,6 +1,6 @@
 //! `Asked` and `Began`.
 
-ghost use Rattle.std.specs.Prelude.{◌≡◌, ◌<◌, ◌^◌, ◌↔◌, IsTrue, length};
+ghost use Rattle.std.specs.Prelude.{◌<◌, ◌^◌, ◌↔◌, IsTrue, length};
 ghost use Rattle.tl_schema.specs.declared.catalog.Catalog.{Catalog};
 ghost use Rattle.tl_isolation.specs.Step.{Allowed};
 ghost use Rattle.tl_si.specs.Shown.{shown};

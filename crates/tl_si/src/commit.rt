@@ -1,6 +1,6 @@
 //! `Tried`, `Clash` and `Committed`.
 
-ghost use Rattle.std.specs.Prelude.{◌↔◌, IsTrue, ◌≡◌, ◌==◌, ◌&&◌, IfOk};
+ghost use Rattle.std.specs.Prelude.{◌↔◌, IsTrue, ◌≡◌, ◌==◌, ◌&&◌};
 ghost use Rattle.std.specs.List.{list_any};
 ghost use Rattle.tl_schema.specs.declared.catalog.Catalog.{Catalog};
 ghost use Rattle.tl_write.specs.Own.{is_written};
@@ -18,7 +18,7 @@ use crate::stop::Stop;
 use crate::undo::end_with;
 use std::alloc::Global;
 use std::mem;
-use tl_base::{Bytes, Items, NoMemory, Tid};
+use tl_base::{Bytes, Items, Tid};
 use tl_isolation::{Answer, Commit, Entry, TxnPhase};
 use tl_write::Write;
 

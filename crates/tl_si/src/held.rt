@@ -1,7 +1,6 @@
 //! The transactions that are neither committed nor undone: at most one of each node.
 
-ghost use Rattle.std.specs.Prelude.{◌≡◌, ◌<◌, ◌==◌, not, find, filter, map, option_and_then, length, slice_get, slice_set, IfOk, IfSome, OnOk};
-ghost use Rattle.std.specs.List.{insert};
+ghost use Rattle.std.specs.Prelude.{◌≡◌};
 ghost use Rattle.tl_isolation.specs.declared.state.Transaction.{Transaction};
 ghost use Rattle.tl_isolation.specs.State as si;
 ghost use Rattle.tl_isolation.specs.Step as step;
@@ -9,7 +8,7 @@ ghost use Rattle.tl_isolation.specs.Step as step;
 use crate::answer::is_refusal;
 use std::alloc::Global;
 use std::marker::Model;
-use tl_base::{Items, NoMemory, NodeId, Tid};
+use tl_base::{Items, NodeId, Tid};
 use tl_isolation::{Answer, Transaction, TxnPhase};
 use tl_write::Buffer;
 

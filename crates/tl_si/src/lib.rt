@@ -19,6 +19,3 @@ mod undo;
 mod vanish;
 
 pub use history::{CheckFault, check, keep_keys};
-
-#[cfg(test)]
-mod tests;

@@ -1,13 +1,11 @@
 //! The commits, and where each record was written.
 
-ghost use Rattle.std.specs.Prelude.{List, ◌≡◌, ◌+◌, ◌++◌, ◌∷◌, [], ℕ, IfOk, OnOk, drop, length, slice_get, take};
-ghost use Rattle.std.specs.List.{list_any};
+ghost use Rattle.std.specs.Prelude.{List, ◌≡◌, ◌+◌, ◌++◌, ◌∷◌, [], ℕ, IfOk, OnOk, drop, length, take};
 ghost use Rattle.std.specs.Option.{option_copied};
 ghost use Rattle.std.specs.FinMap as finmap;
 ghost use Rattle.tl_write.specs.Tables as tables;
 ghost use Rattle.tl_isolation.specs.declared.state.Commit.{Commit};
 ghost use Rattle.tl_isolation.specs.State.{tables_after};
-ghost use Rattle.tl_si.specs.declared.past.Place.{Place};
 ghost use Rattle.tl_si.specs.Places as places;
 
 use std::alloc::Global;
@@ -17,7 +15,7 @@ use tl_isolation::Commit;
 use tl_map::SortedMap;
 use tl_schema::RECORD;
 use tl_values::Row;
-use tl_write::{Write, Writes};
+use tl_write::Write;
 
 /// Where a record was written: which commit, and which of its writes, both from 0.
 #[derive(Clone, Copy, Debug, PartialEq, Eq)]

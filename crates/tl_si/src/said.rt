@@ -1,6 +1,6 @@
 //! `Said`.
 
-ghost use Rattle.std.specs.Prelude.{◌≡◌, ◌↔◌, ◌==◌, ◌&&◌, IsTrue, Some, true};
+ghost use Rattle.std.specs.Prelude.{◌≡◌, ◌==◌, ◌&&◌};
 ghost use Rattle.std.specs.List.{list_any};
 ghost use Rattle.tl_schema.specs.declared.catalog.Catalog.{Catalog};
 ghost use Rattle.tl_isolation.specs.declared.entry.Said.{Said};

@@ -1,10 +1,8 @@
 //! The state of snapshot isolation, and what is read off it.
 
 ghost use Rattle.std.specs.Option.{option_copied};
-ghost use Rattle.std.specs.Prelude.{is_none, ◌≡◌, ◌<◌, ◌≤◌, insert, ◌↔◌, ◌==◌, ◌&&◌, true, false, IsTrue, position, length, slice_get, slice_set, IfErr, IfOk, IfSome, OnOk, Some, None};
-ghost use Rattle.tl_schema.specs.declared.catalog.Setup.{Setup};
+ghost use Rattle.std.specs.Prelude.{is_none, ◌≡◌, ◌≤◌, insert, ◌==◌, position, length, IfOk, OnOk, Some};
 ghost use Rattle.tl_isolation.specs.State as si;
-ghost use Rattle.tl_isolation.specs.Step as step;
 ghost use Rattle.tl_isolation.specs.Tables as tables;
 ghost use Rattle.tl_schema.specs.Record as record_of;
 ghost use Rattle.tl_si.specs.Shown.{shown, TakesOut};
@@ -13,10 +11,10 @@ use crate::begun::Begun;
 use crate::held::Held;
 use crate::past::Past;
 use std::alloc::Global;
-use tl_base::{Bytes, Duplicate, Items, NoMemory, NodeId, NodeSet, Text, Tid};
-use tl_isolation::{Commit, NodeState, SiState, TxnPhase};
+use tl_base::{Duplicate, Items, NoMemory, NodeId, NodeSet, Text, Tid};
+use tl_isolation::{Commit, NodeState};
 use tl_schema::{Catalog, OpeningRow, Setup, Table, record_key};
-use tl_values::Row;
+
 use tl_write::{Buffer, Write};
 
 /// The state of snapshot isolation, with the past so kept that no statement goes through all commits.

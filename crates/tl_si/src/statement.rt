@@ -1,6 +1,6 @@
 //! SELECT and the changes.
 
-ghost use Rattle.std.specs.Prelude.{◌≡◌, ◌↔◌, ◌&&◌, IsTrue, IfOk, OnOk, Ok, Some};
+ghost use Rattle.std.specs.Prelude.{◌≡◌, ◌↔◌, IsTrue, IfOk, Some};
 ghost use Rattle.tl_schema.specs.declared.catalog.Catalog.{Catalog};
 ghost use Rattle.tl_write.specs.Change.{number_of};
 ghost use Rattle.tl_write.specs.Own.{put_writes};

@@ -1,6 +1,6 @@
 //! `Undone`, and what the end of a transaction leaves.
 
-ghost use Rattle.std.specs.Prelude.{◌≡◌, IfOk, OnOk};
+ghost use Rattle.std.specs.Prelude.{◌≡◌, OnOk};
 ghost use Rattle.tl_schema.specs.declared.catalog.Catalog.{Catalog};
 ghost use Rattle.tl_isolation.specs.Step as step;
 ghost use Rattle.tl_isolation.specs.State.{without_held};

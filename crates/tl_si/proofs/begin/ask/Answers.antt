@@ -2,7 +2,7 @@ use Rattle.std.proofs.Common.{◌≡◌, ℕ, List, Some, ap, ◌∙◌}
 use Rattle.tl_isolation.specs.declared.state.NodeState.{NodeState}
 use Rattle.tl_isolation.specs.State.{node_of, put_node}
 use Rattle.tl_si.specs.Shown.{shown}
-use Rattle.tl_si.proofs.Sayings.{never}
+use Rattle.tl_si.proofs.Logic.{never}
 use Rattle.tl_si.proofs.begin.ask.Goals as goal
 
 pub returns-then-not-may_ask : goal.returns-then-not-may_ask

@@ -3,7 +3,7 @@ use Rattle.tl_isolation.specs.declared.state.Transaction.{Transaction}
 use Rattle.tl_si.specs.Shown.{IsOut, TakesOut, shown}
 use Rattle.tl_isolation.specs.Step.{meet_rival}
 use Rattle.tl_si.proofs.Alone.{put_changed}
-use Rattle.tl_si.proofs.Sayings.{never}
+use Rattle.tl_si.proofs.Logic.{never}
 use Rattle.tl_si.proofs.commit.clash.Goals as goal
 
 pub returns-then-not-may_clash : goal.returns-then-not-may_clash
@@ -16,5 +16,5 @@ pub returns : goal.returns
 returns c catalog = (
   (c.may_clash.ensures catalog).0 c.if-not-may_clash.false,
   put_changed (λ (t : Transaction). t.tid == c.args.tid) (meet_rival c.args.rival) c.args.state.now c.take_as.new.self c.put_back.new.self c.in-Some.place c.in-Some.t c.meet_rival.result
-  c.requires (out c) c.meet_rival.ensures refl c.in_ok-put_back.ensures,
+      c.requires (out c) c.meet_rival.ensures refl c.in_ok-put_back.ensures,
 )

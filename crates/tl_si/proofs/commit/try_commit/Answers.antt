@@ -12,5 +12,5 @@ pub returns : goal.returns
 returns c catalog = (
   (c.in-Some.t, (out c).first, sym c.may_try.ensures ∙ c.if-not-may_try.false),
   put_changed (λ (t : Transaction). t.tid == c.args.tid) try_commit c.args.state.now c.take_as.new.self c.put_back.new.self c.in-Some.at c.in-Some.t c.trying.result
-  c.requires (out c) c.trying.ensures refl c.in_ok-put_back.ensures,
+      c.requires (out c) c.trying.ensures refl c.in_ok-put_back.ensures,
 )

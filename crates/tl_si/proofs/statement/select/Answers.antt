@@ -26,6 +26,6 @@ returns c catalog =
         ),
       ),
       put_changed (λ (t : Transaction). t.node == c.args.node) (take_statement catalog (shown c.args.state.now) (bound.Select c.args.query.now) c.args.said.now)
-      c.args.state.now c.take_by.new.self c.put_back.new.self c.in-Some.at c.in-Some.t c.in_ok-keep_answer.field-0
-      c.requires (out c) c.in_ok-keep_answer.ensures (said_tid catalog (shown c.args.state.now) (bound.Select c.args.query.now) c.args.said.now c.in-Some.t) c.in_ok-put_back.ensures,
+          c.args.state.now c.take_by.new.self c.put_back.new.self c.in-Some.at c.in-Some.t c.in_ok-keep_answer.field-0
+          c.requires (out c) c.in_ok-keep_answer.ensures (said_tid catalog (shown c.args.state.now) (bound.Select c.args.query.now) c.args.said.now c.in-Some.t) c.in_ok-put_back.ensures,
     )

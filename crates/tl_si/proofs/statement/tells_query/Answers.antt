@@ -14,10 +14,10 @@ pub returns-in-Ok : goal.returns-in-Ok
 returns-in-Ok c =
     let all : List (List (List Value)) = map (λ (join : Join). rows_in join.table (view c.args.past.now c.args.t.now)) c.args.query.now.from in
     let seen : c.as_slice.result.now ≡ all =
-        c.as_slice.ensures ∙ c.in_ok-tables.ensures
-        ∙ ap (λ (t : Transaction). map (λ (join : Join). rows_in join.table (view c.args.past.now t)) c.args.query.now.from) c.t.view_is in
+    c.as_slice.ensures ∙ c.in_ok-tables.ensures
+    ∙ ap (λ (t : Transaction). map (λ (join : Join). rows_in join.table (view c.args.past.now t)) c.args.query.now.from) c.t.view_is in
     let tells = subst (λ (tables : List (List (List Value))). Tells c.args.query.now tables (Ok c.in-Ok.rows)) seen
-        (subst (λ (r : Result (List (List Value)) ValueFault). Tells c.args.query.now c.as_slice.result.now r) c.in-Ok.is c.rows_of.ensures) in
+    (subst (λ (r : Result (List (List Value)) ValueFault). Tells c.args.query.now c.as_slice.result.now r) c.in-Ok.is c.rows_of.ensures) in
     let one = c.select_has_one_answer.ensures.one in
     let both = c.select_has_one_answer.ensures.never_both in (
       λ h. rows_are c.args.query.now all one both c.in-Ok.rows tells c.args.told.now (sym c.tells_rows.ensures ∙ h),
@@ -28,11 +28,11 @@ pub returns-in-Err-Overflow : goal.returns-in-Err-Overflow
 returns-in-Err-Overflow c =
     let all : List (List (List Value)) = map (λ (join : Join). rows_in join.table (view c.args.past.now c.args.t.now)) c.args.query.now.from in
     let seen : c.as_slice.result.now ≡ all =
-        c.as_slice.ensures ∙ c.in_ok-tables.ensures
-        ∙ ap (λ (t : Transaction). map (λ (join : Join). rows_in join.table (view c.args.past.now t)) c.args.query.now.from) c.t.view_is in
+    c.as_slice.ensures ∙ c.in_ok-tables.ensures
+    ∙ ap (λ (t : Transaction). map (λ (join : Join). rows_in join.table (view c.args.past.now t)) c.args.query.now.from) c.t.view_is in
     let overflow = c.in-Err-Overflow.is ∙ ap (λ (f : ValueFault). Err f) c.in-Err-Overflow.field-0-is in
     let tells = subst (λ (tables : List (List (List Value))). Tells c.args.query.now tables (Err fault.Overflow)) seen
-        (subst (λ (r : Result (List (List Value)) ValueFault). Tells c.args.query.now c.as_slice.result.now r) overflow c.rows_of.ensures) in
+    (subst (λ (r : Result (List (List Value)) ValueFault). Tells c.args.query.now c.as_slice.result.now r) overflow c.rows_of.ensures) in
     let one = c.select_has_one_answer.ensures.one in
     let both = c.select_has_one_answer.ensures.never_both in (
       λ h. overflow_is c.args.query.now all one both tells c.args.told.now (sym c.tells_overflow.ensures ∙ h),

@@ -1,11 +1,12 @@
-use super::*;
+use crate::fixtures::{column, row, rows, test};
 use std::alloc::Global;
 use std::test::Fail;
-use tl_algebra::{Condition, Edit, Expression, Join, Output, Query, SetColumn, Side};
+use tl_algebra::{Edit, Expression, Join, Output, Query, SetColumn};
 use tl_base::{Items, NoMemory, NodeId, Settings, Text, Tid};
 use tl_isolation::{Answer, Bound, Ending, Entry, Said};
-use tl_schema::{Catalog, Column, OpeningRow, Setup, Table};
-use tl_values::{Comparison, Kind, Row, Rows, Value};
+use tl_schema::{Catalog, OpeningRow, Setup, Table};
+use tl_si::{CheckFault, check, keep_keys};
+use tl_values::{Comparison, Value};
 
 /// What is told of a statement.
 #[derive(Clone, Copy)]
@@ -13,7 +14,7 @@ enum Told {
     Begun,
     Changed(u32),
     /// One row, with one value.
-    Value(i64),
+    Value(&'static str),
     Duplicate,
     Conflict(Tid),
     Committed,
@@ -29,8 +30,8 @@ enum Statement {
     Read(i64),
     /// `UPDATE account SET balance = .. WHERE id = ..`
     Update(i64, i64),
-    /// `INSERT INTO account VALUES (.., ..)`
-    Insert(i64, i64),
+    /// `INSERT INTO account VALUES ..`
+    Insert(&'static str),
 }
 
 /// An entry. A statement is answered at once, or when its transaction is committed.
@@ -57,18 +58,10 @@ fn node(number: u8) -> NodeId {
     }
 }
 
-fn column(alloc: Global, name: &str, not_null: bool) -> Result<Column, NoMemory> {
-    Ok(Column {
-        name: Text::from_str(alloc, name)?,
-        kind: Kind::Int,
-        not_null,
-    })
-}
-
 fn account(alloc: Global) -> Result<Table, NoMemory> {
     let mut columns = Items::new(alloc);
-    columns.push(column(alloc, "id", false)?)?;
-    columns.push(column(alloc, "balance", true)?)?;
+    columns.push(column(alloc, "id")?)?;
+    columns.push(column(alloc, "balance")?)?;
     Ok(Table {
         name: Text::from_str(alloc, "account")?,
         columns,
@@ -77,10 +70,10 @@ fn account(alloc: Global) -> Result<Table, NoMemory> {
     })
 }
 
-fn opening_row(alloc: Global, id: i64) -> Result<OpeningRow, NoMemory> {
+fn opening_row(alloc: Global, text: &str) -> Result<OpeningRow, NoMemory> {
     Ok(OpeningRow {
         table: 0,
-        row: values(alloc, &[id, 100])?,
+        row: row(alloc, text)?,
     })
 }
 
@@ -89,8 +82,8 @@ fn setup(alloc: Global) -> Result<Setup, NoMemory> {
     let mut tables = Items::new(alloc);
     tables.push(account(alloc)?)?;
     let mut rows = Items::new(alloc);
-    rows.push(opening_row(alloc, 1)?)?;
-    rows.push(opening_row(alloc, 2)?)?;
+    rows.push(opening_row(alloc, "1 100")?)?;
+    rows.push(opening_row(alloc, "2 100")?)?;
     Ok(Setup {
         catalog: Catalog { tables },
         rows,
@@ -104,29 +97,6 @@ fn setup(alloc: Global) -> Result<Setup, NoMemory> {
     })
 }
 
-fn values(alloc: Global, numbers: &[i64]) -> Result<Row, NoMemory> {
-    let mut row = Row::new(alloc);
-    for number in numbers {
-        row.push(Value::Int(*number))?;
-    }
-    Ok(row)
-}
-
-fn one_row(alloc: Global, numbers: &[i64]) -> Result<Rows, NoMemory> {
-    let mut rows = Rows::new(alloc);
-    rows.push(values(alloc, numbers)?)?;
-    Ok(rows)
-}
-
-/// `WHERE id = ..`
-fn with_id(id: i64) -> Option<Condition> {
-    Some(Condition::Test {
-        left: Side::Place(0),
-        by: Comparison::Equal,
-        right: Side::Literal(Value::Int(id)),
-    })
-}
-
 fn read(alloc: Global, id: i64) -> Result<Query, NoMemory> {
     let mut from = Items::new(alloc);
     from.push(Join { table: 0, on: None })?;
@@ -134,7 +104,7 @@ fn read(alloc: Global, id: i64) -> Result<Query, NoMemory> {
     outputs.push(Output::Expression(Expression::Place(1)))?;
     Ok(Query {
         from,
-        filter: with_id(id),
+        filter: Some(test(0, Comparison::Equal, id)),
         group: Items::new(alloc),
         outputs,
         sort: Items::new(alloc),
@@ -151,14 +121,14 @@ fn update(alloc: Global, id: i64, balance: i64) -> Result<Edit, NoMemory> {
     Ok(Edit::Update {
         table: 0,
         sets,
-        filter: with_id(id),
+        filter: Some(test(0, Comparison::Equal, id)),
     })
 }
 
-fn insert(alloc: Global, id: i64, balance: i64) -> Result<Edit, NoMemory> {
+fn insert(alloc: Global, text: &str) -> Result<Edit, NoMemory> {
     Ok(Edit::Insert {
         table: 0,
-        rows: one_row(alloc, &[id, balance])?,
+        rows: rows(alloc, &[text])?,
     })
 }
 
@@ -172,8 +142,8 @@ fn bound(alloc: Global, statement: Statement) -> Result<Bound, NoMemory> {
         Statement::Update(id, balance) => Bound::Change {
             edit: update(alloc, id, balance)?,
         },
-        Statement::Insert(id, balance) => Bound::Change {
-            edit: insert(alloc, id, balance)?,
+        Statement::Insert(text) => Bound::Change {
+            edit: insert(alloc, text)?,
         },
     })
 }
@@ -182,7 +152,7 @@ fn answer(alloc: Global, told: Told) -> Result<Answer, NoMemory> {
     Ok(match told {
         Told::Begun => Answer::Begun,
         Told::Changed(count) => Answer::Changed(count),
-        Told::Value(value) => Answer::Rows(one_row(alloc, &[value])?),
+        Told::Value(text) => Answer::Rows(rows(alloc, &[text])?),
         Told::Duplicate => Answer::Duplicate,
         Told::Conflict(rival) => Answer::Conflict(rival),
         Told::Committed => Answer::Committed,
@@ -353,26 +323,32 @@ fn a_transaction_sees_its_snapshot_and_its_own_writes(rt: HostRuntime) -> Result
             Line::Answered(2, Told::Changed(1)),
         ],
         &[
-            (&[Line::Now(1, Statement::Read(1), Told::Value(100))], None),
-            (&[Line::Now(1, Statement::Read(1), Told::Value(7))], Some(9)),
             (
-                &[Line::Now(1, Statement::Insert(1, 1), Told::Duplicate)],
+                &[Line::Now(1, Statement::Read(1), Told::Value("100"))],
                 None,
             ),
             (
-                &[Line::Now(1, Statement::Insert(1, 1), Told::Changed(1))],
+                &[Line::Now(1, Statement::Read(1), Told::Value("7"))],
+                Some(9),
+            ),
+            (
+                &[Line::Now(1, Statement::Insert("1 1"), Told::Duplicate)],
+                None,
+            ),
+            (
+                &[Line::Now(1, Statement::Insert("1 1"), Told::Changed(1))],
                 Some(9),
             ),
             (
                 &[
                     Line::Now(1, Statement::Update(2, 0), Told::Changed(1)),
-                    Line::Now(1, Statement::Read(2), Told::Value(0)),
+                    Line::Now(1, Statement::Read(2), Told::Value("0")),
                     Line::Tried(1),
                     Line::Committed(1),
                     Line::Answered(1, Told::Committed),
                     Line::Asked(1),
                     Line::Began(1, 3, 3),
-                    Line::Later(1, Statement::Read(1), Told::Value(7)),
+                    Line::Later(1, Statement::Read(1), Told::Value("7")),
                 ],
                 None,
             ),
@@ -400,7 +376,7 @@ fn a_lost_transaction_is_ended_before_its_node_is_recovered(rt: HostRuntime) -> 
                     Line::Now(2, Statement::Recover(1), Told::Recovered(1)),
                     Line::Asked(2),
                     Line::Began(2, 2, 2),
-                    Line::Later(2, Statement::Read(1), Told::Value(7)),
+                    Line::Later(2, Statement::Read(1), Told::Value("7")),
                 ],
                 None,
             ),
@@ -410,7 +386,7 @@ fn a_lost_transaction_is_ended_before_its_node_is_recovered(rt: HostRuntime) -> 
                     Line::Now(2, Statement::Recover(1), Told::Recovered(1)),
                     Line::Asked(2),
                     Line::Began(2, 2, 1),
-                    Line::Later(2, Statement::Read(1), Told::Value(100)),
+                    Line::Later(2, Statement::Read(1), Told::Value("100")),
                 ],
                 None,
             ),
