@@ -1,4 +1,5 @@
-//! The tests of what statements mean: SELECT, changes, and the plan of a statement. They stand apart, so that no crate
+//! The tests of what statements mean: SELECT, changes, the plan of a statement, and the check
+//! of a history. They stand apart, so that no crate
 //! of code is proved twice.
 #![tactic(auto)]
 
@@ -8,6 +9,8 @@ mod access;
 mod algebra;
 #[cfg(test)]
 mod fixtures;
+#[cfg(test)]
+mod history;
 #[cfg(test)]
 mod plan;
 #[cfg(test)]

@@ -1,71 +1,68 @@
--- Where a write is put among writes, and how many they are then.
-use Rattle.std.proofs.Common.{◌≡◌, ℕ, suc, ◌+◌, ◌≤◌, Bool, true, false, not, cond, List, [], ◌∷◌, length, refl, sym, ap, subst, ◌∙◌, arith}
-use Rattle.std.specs.Prelude.{slice_get, slice_set}
-use Rattle.std.specs.List.{position_or_len, insert}
-use Rattle.std.specs.declared.cmp.Ordering.{Ordering}
-use Rattle.std.specs.declared.cmp.Ordering.TheVariants.{Less, Equal, Greater}
-use Rattle.std.specs.Ordering.{is_eq, is_le, match_ordering}
-use Rattle.std.proofs.lemmas.List.Sums.{prefix_len-le-length}
-use Rattle.tl_history.specs.declared.state.Write.{Write}
-use Rattle.tl_history.specs.Step.{holds}
-use Rattle.tl_history.specs.Tables.{key_cmp, put_write, put_writes}
+-- The row of a record once writes are laid over tables.
+use Rattle.std.proofs.Common.{◌≡◌, ℕ, Bool, true, false, cond, List, [], ◌∷◌, Option, Some, None, Ordering, Less, Equal, Greater, refl, sym, ap, ◌∙◌}
+use Rattle.std.specs.Option.{option_or}
+use Rattle.std.specs.FinMap as finmap
+use Rattle.std.specs.FinMap.{nat_cmp-IsAntisymmetric, slice_cmp-IsAntisymmetric}
+use Rattle.std.specs.Cmp.Lexicographic.{nat_list_cmp_total}
+use Rattle.std.specs.Ordering.{is_eq, ordering_reverse}
+use Rattle.tl_values.specs.declared.value.Value.{Value}
+use Rattle.tl_write.specs.declared.write.Write.{Write}
+use Rattle.tl_write.specs.Own.{key_cmp}
+use Rattle.tl_write.specs.Tables.{Tables, laid_over, laid_write}
+use Rattle.tl_si.specs.Places.{same_key}
 
--- the first place whose key isn't below this one
-abbrev pub place : List ℕ → List Write → ℕ
-place key = position_or_len (λ w. is_le (key_cmp key w.key))
+abbrev pub Row : Type 0
+Row = List Value
 
-abbrev pub stands : List ℕ → ℕ → List Write → Bool
-stands key at writes = holds (λ w. is_eq (key_cmp key w.key)) (slice_get writes at)
+abbrev pub Key : Type 0
+Key = List ℕ
 
-abbrev pub put_at : Write → ℕ → Bool → List Write → List Write
-put_at w at replaces writes = cond replaces (slice_set writes at w) (insert writes at w)
+-- keys that tie are one
+pub tie : (k l : Key) → same_key k l ≡ true → k ≡ l
+tie k l h = slice_cmp-IsAntisymmetric nat_cmp-IsAntisymmetric k l (equal (key_cmp k l) h)
+  where
+    equal : (o : Ordering) → is_eq o ≡ true → o ≡ Equal
+    equal Less h = absurd cc
+    equal Equal h = refl
+    equal Greater h = absurd cc
 
-cond_cons : (b : Bool) (x : Write) (xs ys : List Write) → cond b (x ∷ xs) (x ∷ ys) ≡ x ∷ cond b xs ys
-cond_cons true x xs ys = refl
-cond_cons false x xs ys = refl
+pub equal_keys : finmap.IsAntisymmetric key_cmp
+equal_keys = slice_cmp-IsAntisymmetric nat_cmp-IsAntisymmetric
 
-next : (n : ℕ) → suc n ≡ 1 + n
-next n = omega arith
+eq_turned : (o : Ordering) → is_eq (ordering_reverse o) ≡ is_eq o
+eq_turned Less = refl
+eq_turned Equal = refl
+eq_turned Greater = refl
 
-at_cons : (w x : Write) (n : ℕ) (xs : List Write) → put_at w (1 + n) (stands w.key (1 + n) (x ∷ xs)) (x ∷ xs) ≡ x ∷ put_at w n (stands w.key n xs) xs
-at_cons w x n xs =
-    subst (λ (m : ℕ). put_at w m (stands w.key m (x ∷ xs)) (x ∷ xs) ≡ x ∷ put_at w n (stands w.key n xs) xs) (next n)
-    (cond_cons (stands w.key n xs) x (slice_set xs n w) (insert xs n w))
+pub same_turned : (k l : Key) → same_key k l ≡ same_key l k
+same_turned k l = ap is_eq (nat_list_cmp_total.antisymm k l) ∙ eq_turned (key_cmp l k)
 
-step : (w x : Write) (xs : List Write) (o : Ordering) → put_write w xs ≡ put_at w (place w.key xs) (stands w.key (place w.key xs) xs) xs →
-    o ≡ key_cmp w.key x.key →
-    match_ordering o (w ∷ x ∷ xs) (w ∷ xs) (x ∷ put_write w xs)
-    ≡ put_at w (cond (not (is_le o)) (1 + place w.key xs) 0) (stands w.key (cond (not (is_le o)) (1 + place w.key xs) 0) (x ∷ xs)) (x ∷ xs)
-step w x xs Less h e = ap (λ (o : Ordering). put_at w 0 (is_eq o) (x ∷ xs)) e
-step w x xs Equal h e = ap (λ (o : Ordering). put_at w 0 (is_eq o) (x ∷ xs)) e
-step w x xs Greater h e = ap (λ (rest : List Write). x ∷ rest) h ∙ sym (at_cons w x (place w.key xs) xs)
+-- the row, or its deletion, that these writes leave at the key, if one of them is of it
+abbrev pub written : Key → List Write → Option (Option Row)
+written k [] = None
+written k (w ∷ ws) = option_or (written k ws) (cond (same_key w.key k) (Some w.row) None)
 
-pub put_write_place : (w : Write) (writes : List Write) → put_write w writes ≡ put_at w (place w.key writes) (stands w.key (place w.key writes) writes) writes
-put_write_place w [] = refl
-put_write_place w (x ∷ xs) = step w x xs (key_cmp w.key x.key) (put_write_place w xs) refl
+-- a written row lies over the one below it
+abbrev pub over : Option (Option Row) → Option Row → Option Row
+over None below = below
+over (Some row) below = row
 
-length_match : (o : Ordering) (w x : Write) (xs ys : List Write) → length ys ≤ 1 + length xs →
-    length (match_ordering o (w ∷ x ∷ xs) (w ∷ xs) (x ∷ ys)) ≤ 2 + length xs
-length_match Less w x xs ys h = omega arith
-length_match Equal w x xs ys h = omega arith
-length_match Greater w x xs ys h = omega arith
+laid_one : (tables : Tables) (k : Key) (row : Option Row) (q : Key)
+    → finmap.get (laid_write tables (record { key = k; row = row })) q ≡ cond (same_key k q) row (finmap.get tables q)
+laid_one tables k None q =
+    finmap.get-remove nat_list_cmp_total tables k q ∙ ap (λ (b : Bool). cond b None (finmap.get tables q)) (same_turned q k)
+laid_one tables k (Some row) q =
+    finmap.get-insert nat_list_cmp_total tables k row q ∙ ap (λ (b : Bool). cond b (Some row) (finmap.get tables q)) (same_turned q k)
 
-one_more : (w : Write) (xs : List Write) → length (put_write w xs) ≤ 1 + length xs
-one_more w [] = omega arith
-one_more w (x ∷ xs) = let h = length_match (key_cmp w.key x.key) w x xs (put_write w xs) (one_more w xs) in omega (arith, h)
+over_last : (b : Bool) (row below : Option Row) (later : Option (Option Row))
+    → over later (cond b row below) ≡ over (option_or later (cond b (Some row) None)) below
+over_last true row below None = refl
+over_last false row below None = refl
+over_last b row below (Some x) = refl
 
-pub put_writes_length : (more writes : List Write) → length (put_writes more writes) ≤ length more + length writes
-put_writes_length [] ws = omega arith
-put_writes_length (w ∷ more) ws = omega (arith, put_writes_length more (put_write w ws), one_more w ws)
-
-pub place_within : (key : List ℕ) (at : ℕ) (xs ys : List Write) → ys ≡ xs → at ≡ place key ys → at ≤ length xs
-place_within key at xs ys e p =
-    subst (λ (n : ℕ). n ≤ length xs) (sym (p ∙ ap (place key) e)) (prefix_len-le-length (λ w. not (is_le (key_cmp key w.key))) xs)
-
-put_here : (w : Write) (xs : List Write) (at : ℕ) (b : Bool) → at ≡ place w.key xs → b ≡ stands w.key at xs → put_write w xs ≡ put_at w at b xs
-put_here w xs at b e h =
-    put_write_place w xs ∙ ap (λ (n : ℕ). put_at w n (stands w.key n xs) xs) (sym e) ∙ ap (λ (c : Bool). put_at w at c xs) (sym h)
-
--- what `put_write` does, where the lists that its calls read are the writes
-pub put_write_so : (w : Write) (xs ys zs : List Write) (at : ℕ) (b : Bool) → ys ≡ xs → zs ≡ xs → at ≡ place w.key ys → b ≡ stands w.key at zs → put_write w xs ≡ put_at w at b xs
-put_write_so w xs ys zs at b e f p h = put_here w xs at b (p ∙ ap (place w.key) e) (h ∙ ap (stands w.key at) f)
+pub get_laid : (tables : Tables) (ws : List Write) (k : Key) → finmap.get (laid_over tables ws) k ≡ over (written k ws) (finmap.get tables k)
+get_laid tables [] k = refl
+get_laid tables (w ∷ ws) k =
+    get_laid (laid_write tables w) ws k
+    ∙ ap (λ (below : Option Row). over (written k ws) below) (laid_one tables w.key w.row k)
+    ∙ over_last (same_key w.key k) w.row (finmap.get tables k) (written k ws)

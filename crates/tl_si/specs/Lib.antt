@@ -1,2 +1,9 @@
-pub mod Counted
+pub mod Places
+pub mod Shown
+pub mod Stops
 pub mod Faults
+pub mod Answers
+pub mod Numbers
+pub mod Ends
+pub mod Sound
+pub mod Statements

@@ -1,23 +1,30 @@
 //! The check of a history.
 
-ghost use Rattle.std.specs.Prelude.{◌≡◌, ◌<◌, ◌^◌, IfErr, IfOk, OnOk, length};
+ghost use Rattle.std.specs.List.{list_any};
+ghost use Rattle.std.specs.Prelude.{IsTrue, ◌==◌, ◌≡◌, ◌<◌, ◌^◌, IfErr, IfOk, OnOk, length};
+ghost use Rattle.tl_isolation.specs.History as history;
+ghost use Rattle.tl_isolation.specs.Tables.{table_of};
 ghost use Rattle.tl_si.specs.Faults.{IsFault};
+ghost use Rattle.tl_si.specs.Shown.{shown};
+ghost use Rattle.tl_si.specs.Sound.{IsSound, change_keeps, keep_keys, keeps_key, statement_keeps};
+ghost use Rattle.tl_si.specs.Stops.{Stepped};
 ghost use Rattle.tl_si.specs.declared.history.CheckFault.TheVariants as fault;
-ghost use Rattle.tl_history.specs.History as history;
-ghost use Rattle.tl_history.specs.State as si;
-ghost use Rattle.tl_history.specs.Tables as tables;
-ghost use Rattle.tl_schema.specs.Record as record_of;
 
-use crate::after::after;
-use crate::allowed::allowed;
-use crate::change::no_table;
-use crate::writes::put_write;
+use crate::answer::answer;
+use crate::begin::{ask, begin};
+use crate::commit::{clash, commit, try_commit};
+use crate::held::Held;
+use crate::said::say;
+use crate::state::{State, opening_state};
+use crate::stop::Stop;
+use crate::undo::undo;
+use crate::vanish::vanish;
 use std::alloc::Global;
 use thiserror::Error;
-use tl_base::{Bytes, Duplicate, Items, NoMemory, NodeSet};
-use tl_history::{Commit, Entry, SiState, Write};
-use tl_schema::{Catalog, OpeningRow, Setup, record_key};
-use tl_values::Row;
+use tl_algebra::{Edit, SetColumn};
+use tl_base::{Items, NoMemory};
+use tl_isolation::{Bound, Entry, SiState, Transaction};
+use tl_schema::{Catalog, Setup};
 
 /// Why there is no state after the entries.
 #[derive(Clone, Copy, Debug, PartialEq, Eq, Error)]
@@ -38,73 +45,130 @@ impl From<NoMemory> for CheckFault {
 }
 
 /// The state after the entries, where they are a history of what began with the setup; else the first entry that
-/// breaks it.
+/// breaks it. The entries are fewer than 2^32, and a SET in them leaves the columns of the primary key.
 pub fn check(alloc: Global, setup: &Setup, entries: &[Entry]) -> Result<SiState, CheckFault>
-    requires { length entries.now < 2 ^ 32 }
+    requires few { length entries.now < 2 ^ 32 }
+    requires keys { IsTrue (keep_keys setup.now.catalog entries.now) }
     ensures history { OnOk result (history.IsHistory setup.now entries.now) }
     ensures state { IfOk result (λ state. state ≡ history.state_after setup.now entries.now) }
     ensures fault { IfErr result (IsFault setup.now entries.now) }
 {
     let mut state = opening_state(alloc, setup)?;
     for (at, entry) in entries.iter().enumerate() {
-        if !allowed(alloc, setup, &state, entry)? {
-            return Err(CheckFault::FirstFault { at: at as u32 });
+        match step(alloc, &setup.catalog, &mut state, entry) {
+            Ok(()) => {}
+            Err(Stop::Breaks) => return Err(CheckFault::FirstFault { at: at as u32 }),
+            Err(Stop::NoMemory) => return Err(CheckFault::NoMemory),
         }
-        state = after(alloc, setup, state, entry)?;
     }
-    Ok(state)
+    Ok(into_si(alloc, state)?)
 }
 
-/// The state before the first entry.
-fn opening_state(alloc: Global, setup: &Setup) -> Result<SiState, NoMemory>
-    ensures { IfOk result (λ state. state ≡ si.opening_state setup.now) }
+/// Whether each SET in the entries leaves the columns of its table's primary key, as in all statements that are bound.
+pub fn keep_keys(catalog: &Catalog, entries: &[Entry]) -> bool
+    ensures { result ≡ keep_keys catalog.now entries.now }
 {
-    let writes = opening_writes(alloc, &setup.catalog, setup.rows.as_slice())?;
-    let mut commits = Items::new(alloc);
-    commits.push(Commit { tid: 0, writes })?;
-    Ok(SiState {
-        commits,
-        begun: Items::new(alloc),
-        vanished: NodeSet::new(),
-        held: Items::new(alloc),
-        nodes: Items::new(alloc),
-    })
+    entries.iter().all(|entry| keeps_key(catalog, entry))
 }
 
-/// The opening rows, in rising order of record keys. Of two with one key the first one stays.
-fn opening_writes(
-    alloc: Global,
-    catalog: &Catalog,
-    rows: &[OpeningRow],
-) -> Result<Items<Write>, NoMemory>
-    ensures { IfOk result (λ writes. writes ≡ tables.opening_writes catalog.now rows.now) }
+fn keeps_key(catalog: &Catalog, entry: &Entry) -> bool
+    ensures { result ≡ keeps_key catalog.now entry.now }
 {
-    let mut writes = Items::new(alloc);
-    let mut at = rows.len();
-    while at > 0 {
-        at -= 1;
-        let write = opening_write(alloc, catalog, &rows[at])?;
-        writes = put_write(write, writes)?;
+    match entry {
+        Entry::Said { bound, .. } => statement_keeps(catalog, bound),
+        _ => true,
     }
-    Ok(writes)
 }
 
-fn opening_write(alloc: Global, catalog: &Catalog, opening: &OpeningRow) -> Result<Write, NoMemory>
-    ensures { let o = opening.now in IfOk result (λ write. write ≡ record { key = record_of.record_key o.table (tables.table_of catalog.now o.table) o.row; row = Some o.row }) }
+fn statement_keeps(catalog: &Catalog, bound: &Bound) -> bool
+    ensures { result ≡ statement_keeps catalog.now bound.now }
 {
-    let key = key_in(alloc, catalog, opening.table, &opening.row)?;
-    let kept = opening.row.copy()?;
-    Ok(Write {
-        key,
-        row: Some(kept),
-    })
+    match bound {
+        Bound::Change { edit } => change_keeps(catalog, edit),
+        _ => true,
+    }
 }
 
-fn key_in(alloc: Global, catalog: &Catalog, number: u8, values: &Row) -> Result<Bytes, NoMemory>
-    ensures { IfOk result (λ key. key ≡ record_of.record_key number (tables.table_of catalog.now number) values.now) }
+fn change_keeps(catalog: &Catalog, edit: &Edit) -> bool
+    ensures { result ≡ change_keeps catalog.now edit.now }
+{
+    match edit {
+        Edit::Update { table, sets, .. } => !set_any(key_of(catalog, *table), sets.as_slice()),
+        Edit::Insert { .. } | Edit::Delete { .. } => true,
+    }
+}
+
+/// The columns of the primary key of the table of this number, and none where there is no such table.
+fn key_of(catalog: &Catalog, number: u8) -> &[u8]
+    ensures { result.now ≡ (table_of catalog.now number).key }
 {
     match catalog.tables.get(usize::from(number)) {
-        Some(table) => record_key(alloc, number, table, values),
-        None => record_key(alloc, number, &no_table(alloc)?, values),
+        Some(table) => table.key.as_slice(),
+        None => &[],
     }
+}
+
+/// Whether one of the columns is set.
+fn set_any(columns: &[u8], sets: &[SetColumn]) -> bool
+    ensures { result ≡ list_any (λ set. list_any (λ place. place == set.column) columns.now) sets.now }
+{
+    sets.iter().any(|set| is_among(set, columns))
+}
+
+fn is_among(set: &SetColumn, columns: &[u8]) -> bool
+    ensures { result ≡ list_any (λ place. place == set.now.column) columns.now }
+{
+    columns.iter().any(|place| *place == set.column)
+}
+
+/// One entry more.
+fn step(alloc: Global, catalog: &Catalog, state: &mut State, entry: &Entry) -> Result<(), Stop>
+    requires few { length state.old.commits < 2 ^ 32 }
+    requires sound { IsSound catalog.now (shown state.old) }
+    ensures { Stepped catalog.now state.old entry.now result state.new }
+{
+    match entry {
+        Entry::Asked { node } => ask(state, *node),
+        Entry::Began { node, tid, first } => begin(alloc, state, *node, *tid, *first),
+        Entry::Said { node, bound, said } => say(alloc, catalog, state, *node, bound, said),
+        Entry::Tried { tid } => try_commit(state, *tid),
+        Entry::Clash { tid, rival, at } => clash(state, *tid, *rival, *at),
+        Entry::Committed { tid } => commit(alloc, state, *tid),
+        Entry::Undone { tid } => undo(state, *tid),
+        Entry::Answered {
+            node,
+            answer: told,
+            ..
+        } => answer(state, *node, told),
+        Entry::Vanished { node, .. } => vanish(alloc, state, *node),
+    }
+}
+
+fn into_si(alloc: Global, state: State) -> Result<SiState, NoMemory>
+    ensures { IfOk result (λ si. si ≡ shown state) }
+{
+    let State {
+        commits,
+        begun,
+        vanished,
+        held,
+        nodes,
+    } = state;
+    Ok(SiState {
+        commits: commits.into_commits(),
+        begun: begun.into_tids(),
+        vanished,
+        held: transactions(alloc, held)?,
+        nodes: Items::from_vec(nodes),
+    })
+}
+
+fn transactions(alloc: Global, held: Vec<Held>) -> Result<Items<Transaction>, NoMemory>
+    ensures { IfOk result (λ ts. ts ≡ held.items) }
+{
+    let mut transactions = Items::new(alloc);
+    for t in held {
+        transactions.push(t.into_transaction())?;
+    }
+    Ok(transactions)
 }

@@ -2,23 +2,20 @@
 //! the machine of snapshot isolation doesn't allow.
 #![tactic(auto)]
 
-mod after;
-mod allowed;
 mod answer;
-mod change;
-mod copy;
+mod begin;
+mod begun;
+mod commit;
+mod held;
 mod history;
-mod say;
-mod select;
+mod nodes;
+mod past;
+mod said;
+mod seen;
 mod state;
-mod view;
-mod writes;
+mod statement;
+mod stop;
+mod undo;
+mod vanish;
 
-pub use history::{CheckFault, check};
-pub use tl_history::{
-    Answer, Commit, Ending, Entry, Event, Journal, NodeState, Reply, Request, Said, SiState,
-    Transaction, TxnPhase, Write,
-};
-
-#[cfg(test)]
-mod tests;
+pub use history::{CheckFault, check, keep_keys};

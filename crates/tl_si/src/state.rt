@@ -1,212 +1,160 @@
-//! What is read off a state, and its lists with one thing changed.
+//! The state of snapshot isolation, and what is read off it.
 
-ghost use Rattle.std.specs.Prelude.{◌≡◌, ◌==◌, not, filter, find, map, IfOk};
 ghost use Rattle.std.specs.Option.{option_copied};
-ghost use Rattle.tl_history.specs.State as si;
-ghost use Rattle.tl_history.specs.Step as step;
+ghost use Rattle.std.specs.Prelude.{is_none, ◌≡◌, ◌≤◌, insert, ◌==◌, position, length, IfOk, OnOk, Some};
+ghost use Rattle.tl_isolation.specs.State as si;
+ghost use Rattle.tl_isolation.specs.Tables as tables;
+ghost use Rattle.tl_schema.specs.Record as record_of;
+ghost use Rattle.tl_si.specs.Shown.{shown, TakesOut};
 
-use crate::copy::{copy_node, copy_transaction};
+use crate::begun::Begun;
+use crate::held::Held;
+use crate::past::Past;
 use std::alloc::Global;
-use tl_base::{Items, NoMemory, NodeId, Tid};
-use tl_history::{Answer, NodeState, SiState, Transaction, TxnPhase};
+use tl_base::{Duplicate, Items, NoMemory, NodeId, NodeSet, Text, Tid};
+use tl_isolation::{Commit, NodeState};
+use tl_schema::{Catalog, OpeningRow, Setup, Table, record_key};
 
-/// The transaction that a node holds.
-pub fn held_by(node: NodeId, held: &[Transaction]) -> Option<&Transaction>
-    ensures { option_copied result ≡ si.held_by node held.now }
-{
-    held.iter().find(|t| t.node == node)
+use tl_write::{Buffer, Write};
+
+/// The state of snapshot isolation, with the past so kept that no statement goes through all commits.
+#[derive(Drop)]
+pub struct State {
+    pub commits: Past,
+    pub begun: Begun,
+    pub vanished: NodeSet,
+    /// At most one of each node.
+    pub held: Vec<Held>,
+    /// The nodes that have anything in hand.
+    pub nodes: Vec<NodeState>,
 }
 
-/// The held transaction of this number.
-pub fn held_as(tid: Tid, held: &[Transaction]) -> Option<&Transaction>
-    ensures { option_copied result ≡ si.held_as tid held.now }
-{
-    held.iter().find(|t| t.tid == tid)
-}
+impl State {
+    /// The transaction that the node holds.
+    pub fn held_by(&self, node: NodeId) -> Option<&Held>
+        ensures { option_copied result ≡ si.held_by node self.now.held.items }
+    {
+        self.held.iter().find(|t| t.node == node)
+    }
 
-/// The transaction in the place of the one of its number.
-pub fn put_held(
-    alloc: Global,
-    changed: &Transaction,
-    held: Items<Transaction>,
-) -> Result<Items<Transaction>, NoMemory>
-    ensures { IfOk result (λ put. put ≡ si.put_held changed.now held) }
-{
-    let mut put = Items::new(alloc);
-    for t in held.into_vec() {
-        if t.tid == changed.tid {
-            put.push(copy_transaction(alloc, changed)?)?;
-        } else {
-            put.push(t)?;
+    /// Whether the node holds no transaction.
+    pub fn holds_none(&self, node: NodeId) -> bool
+        ensures { result ≡ is_none (si.held_by node self.now.held.items) }
+    {
+        self.held_by(node).is_none()
+    }
+
+    /// The held transaction of this number.
+    pub fn held_as(&self, tid: Tid) -> Option<&Held>
+        ensures { option_copied result ≡ si.held_as tid self.now.held.items }
+    {
+        self.held.iter().find(|t| t.tid == tid)
+    }
+
+    /// The transaction that a node holds, taken out of the list, with its place there.
+    pub fn take_by(&mut self, node: NodeId) -> Option<(usize, Held)>
+        ensures { TakesOut (λ t. t.node == node) self.old result self.new }
+    {
+        match place_by(self.held.as_slice(), node) {
+            Some(at) => Some((at, self.held.remove(at))),
+            None => None,
         }
     }
-    Ok(put)
-}
 
-/// The held transactions but for those of this number.
-pub fn without_held(
-    alloc: Global,
-    tid: Tid,
-    held: Items<Transaction>,
-) -> Result<Items<Transaction>, NoMemory>
-    ensures { IfOk result (λ left. left ≡ si.without_held tid held) }
-{
-    let mut left = Items::new(alloc);
-    for t in held.into_vec() {
-        if t.tid != tid {
-            left.push(t)?;
+    /// The held transaction of this number, taken out of the list, with its place there.
+    pub fn take_as(&mut self, tid: Tid) -> Option<(usize, Held)>
+        ensures { TakesOut (λ t. t.tid == tid) self.old result self.new }
+    {
+        match place_as(self.held.as_slice(), tid) {
+            Some(at) => Some((at, self.held.remove(at))),
+            None => None,
         }
     }
-    Ok(left)
-}
 
-/// The transactions with those of the node lost.
-pub fn lose(
-    alloc: Global,
-    node: NodeId,
-    held: Items<Transaction>,
-) -> Result<Items<Transaction>, NoMemory>
-    ensures { IfOk result (λ lost. lost ≡ map (step.lose node) held) }
-{
-    let mut lost = Items::new(alloc);
-    for t in held.into_vec() {
-        lost.push(lose_one(node, t))?;
-    }
-    Ok(lost)
-}
-
-fn lose_one(node: NodeId, t: Transaction) -> Transaction
-    ensures { result ≡ step.lose node t }
-{
-    if t.node == node {
-        Transaction {
-            phase: TxnPhase::Lost,
-            ..t
-        }
-    } else {
-        t
+    /// Puts a transaction where one was taken out.
+    pub fn put_back(&mut self, at: usize, t: Held) -> Result<(), NoMemory>
+        requires { at ≤ length self.old.held.items }
+        ensures { OnOk result (shown self.new ≡ record (shown self.old) { held = insert self.old.held.items at t }) }
+    {
+        self.held.insert(at, t)?;
+        Ok(())
     }
 }
 
-/// The answer that a node has still to give.
-pub fn outcome_of(state: &SiState, node: NodeId) -> Option<&Answer>
-    ensures { option_copied result ≡ step.outcome_of state.now node }
+/// The place of the transaction that a node holds.
+fn place_by(held: &[Held], node: NodeId) -> Option<usize>
+    ensures { result ≡ position (λ t. t.node == node) held.now }
 {
-    match listed(node, state.nodes.as_slice()) {
-        Some(s) => s.outcome.as_ref(),
-        None => None,
+    held.iter().position(|t| t.node == node)
+}
+
+/// The place of the held transaction of this number.
+fn place_as(held: &[Held], tid: Tid) -> Option<usize>
+    ensures { result ≡ position (λ t. t.tid == tid) held.now }
+{
+    held.iter().position(|t| t.tid == tid)
+}
+
+/// The state before the first entry.
+pub fn opening_state(alloc: Global, setup: &Setup) -> Result<State, NoMemory>
+    ensures { IfOk result (λ state. shown state ≡ si.opening_state setup.now) }
+{
+    let writes = opening_writes(alloc, &setup.catalog, setup.rows.as_slice())?;
+    let commit = Commit {
+        tid: 0,
+        writes: Items::from_vec(writes.into_vec()),
+    };
+    Ok(State {
+        commits: Past::new(alloc).with(commit)?,
+        begun: Begun::new(alloc),
+        vanished: NodeSet::new(),
+        held: Vec::new(alloc),
+        nodes: Vec::new(alloc),
+    })
+}
+
+/// The opening rows, in rising order of record keys. Of two with one key the first one stays.
+fn opening_writes(alloc: Global, catalog: &Catalog, rows: &[OpeningRow]) -> Result<Buffer, NoMemory>
+    ensures { IfOk result (λ writes. writes ≡ tables.opening_writes catalog.now rows.now) }
+{
+    let none = no_table(alloc)?;
+    let mut writes = Buffer::new(alloc);
+    let mut at = rows.len();
+    while at > 0 {
+        at -= 1;
+        writes.put(opening_write(alloc, table_of(catalog, rows[at].table, &none), &rows[at])?)?;
     }
+    Ok(writes)
 }
 
-/// How many commits there were when a node asked to begin.
-pub fn noted_of(state: &SiState, node: NodeId) -> Option<u32>
-    ensures { result ≡ step.noted_of state.now node }
+fn opening_write(alloc: Global, table: &Table, opening: &OpeningRow) -> Result<Write, NoMemory>
+    ensures { let o = opening.now in IfOk result (λ write. write ≡ record { key = record_of.record_key o.table table.now o.row; row = Some o.row }) }
 {
-    match listed(node, state.nodes.as_slice()) {
-        Some(s) => s.noted,
-        None => None,
-    }
+    let key = record_key(alloc, opening.table, table, &opening.row)?;
+    let row = Some(opening.row.copy()?);
+    Ok(Write { key, row })
 }
 
-fn listed(node: NodeId, nodes: &[NodeState]) -> Option<&NodeState>
-    ensures { option_copied result ≡ find (λ s. s.node == node) nodes.now }
+/// The table of this number, or `none`, which has no columns.
+pub fn table_of<'a>(catalog: &'a Catalog, number: u8, none: &'a Table) -> &'a Table
+    requires { none.now ≡ tables.no_table }
+    ensures { result.now ≡ tables.table_of catalog.now number }
 {
-    nodes.iter().find(|s| s.node == node)
+    catalog
+        .tables
+        .as_slice()
+        .get(usize::from(number))
+        .unwrap_or(none)
 }
 
-/// What a node has in hand.
-pub fn node_of(node: NodeId, nodes: &[NodeState]) -> Result<NodeState, NoMemory>
-    ensures { IfOk result (λ found. found ≡ si.node_of node nodes.now) }
+/// The table that stands for a number without one: it has no columns.
+pub fn no_table(alloc: Global) -> Result<Table, NoMemory>
+    ensures { IfOk result (λ table. table ≡ tables.no_table) }
 {
-    match listed(node, nodes) {
-        Some(found) => copy_node(found),
-        None => Ok(NodeState {
-            node,
-            noted: None,
-            outcome: None,
-        }),
-    }
-}
-
-/// The node's state in the place of what it had. A node with nothing in hand isn't listed.
-pub fn put_node(
-    alloc: Global,
-    node: NodeState,
-    nodes: Items<NodeState>,
-) -> Result<Items<NodeState>, NoMemory>
-    ensures { IfOk result (λ put. put ≡ si.put_node node nodes) }
-{
-    let mut put = others(alloc, node.node, nodes)?;
-    if node.noted.is_some() || node.outcome.is_some() {
-        put.push(node)?;
-    }
-    Ok(put)
-}
-
-fn others(
-    alloc: Global,
-    node: NodeId,
-    nodes: Items<NodeState>,
-) -> Result<Items<NodeState>, NoMemory>
-    ensures { IfOk result (λ left. left ≡ filter (λ o. not (o.node == node)) nodes) }
-{
-    let mut left = Items::new(alloc);
-    for s in nodes.into_vec() {
-        if s.node != node {
-            left.push(s)?;
-        }
-    }
-    Ok(left)
-}
-
-/// Whether it takes statements.
-pub fn is_live(phase: TxnPhase) -> bool
-    ensures { result ≡ si.is_live phase }
-{
-    phase == TxnPhase::Live
-}
-
-/// Whether its node has vanished.
-pub fn is_lost(phase: TxnPhase) -> bool
-    ensures { result ≡ si.is_lost phase }
-{
-    phase == TxnPhase::Lost
-}
-
-/// Whether it is about to commit.
-pub fn is_trying(phase: TxnPhase) -> bool
-    ensures { result ≡ step.is_trying phase }
-{
-    phase == TxnPhase::Trying
-}
-
-/// Whether it has a rival.
-pub fn is_undoing(phase: TxnPhase) -> bool
-    ensures { result ≡ step.is_undoing phase }
-{
-    phase == TxnPhase::Undoing
-}
-
-/// Live, outside BEGIN, and nothing was said in it yet.
-pub fn is_fresh(t: &Transaction) -> bool
-    ensures { result ≡ si.is_fresh t.now }
-{
-    is_live(t.phase) && !t.opened && t.unanswered.is_none()
-}
-
-/// Live, and opened by BEGIN.
-pub fn is_open(t: &Transaction) -> bool
-    ensures { result ≡ si.is_open t.now }
-{
-    is_live(t.phase) && t.opened
-}
-
-/// Whether a change was refused.
-pub fn is_refusal(told: &Answer) -> bool
-    ensures { result ≡ si.is_refusal told.now }
-{
-    matches!(
-        told,
-        Answer::Duplicate | Answer::Null | Answer::Overflow | Answer::Long | Answer::Many
-    )
+    Ok(Table {
+        name: Text::from_str(alloc, "")?,
+        columns: Items::new(alloc),
+        key: Items::new(alloc),
+        indexes: Items::new(alloc),
+    })
 }

@@ -1,9 +1,0 @@
-pub mod Tables
-pub mod Select
-pub mod Change
-pub mod Answer
-pub mod State
-pub mod Step
-pub mod History
-pub mod Script
-pub mod FirstPath
