@@ -55,6 +55,7 @@ pub mod Shards
 pub mod Sizes
 pub mod Speaking
 pub mod Spoken
+pub mod Stated
 pub mod Statements
 pub mod Stood
 pub mod Store
