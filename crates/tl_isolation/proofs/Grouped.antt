@@ -9,7 +9,9 @@ use Rattle.tl_schema.specs.declared.catalog.Catalog.{Catalog}
 use Rattle.tl_algebra.specs.declared.expression.Expression.{Expression, roll-Expression}
 use Rattle.tl_algebra.specs.declared.expression.Expression.TheOpen.{Expression-F}
 use Rattle.tl_algebra.specs.declared.expression.Expression.TheOpen as layer
-use Rattle.tl_algebra.specs.declared.expression.Expression.TheFolds.{fold-roll-Expression, ind-Expression, map-Expression}
+use Rattle.tl_algebra.specs.declared.expression.Expression.TheFolds.{fold-roll-Expression, fold_out-Expression, ind-Expression, map-Expression}
+use Rattle.tl_algebra.specs.declared.expression.Expression.TheVariants as expression
+use Rattle.tl_algebra.specs.declared.expression.Expression.TheVariants.{outs-Place}
 use Rattle.tl_algebra.specs.declared.expression.Step.{Step}
 use Rattle.tl_algebra.specs.declared.query.Output.{Output}
 use Rattle.tl_algebra.specs.declared.query.Output.TheVariants as output
@@ -41,6 +43,13 @@ over_of_layer places l = fold-roll-Expression Bool (group_layer places) l
 value_of_roll : (row : List Value) (l : Expression-F Expression) → value_of (roll-Expression l) row ≡ value_layer row (map-Expression Expression (Option Value) (λ e. value_of e row) l)
 unfolding value_of
 value_of_roll row l = fold-roll-Expression (Option Value) (value_layer row) l
+
+-- a column is over itself alone
+pub over_place : (places : List ℕ) (at : ℕ) → is_over places (expression.Place at) ≡ is_among places at
+unfolding is_over
+over_place places at =
+    fold_out-Expression Bool (group_layer places) (expression.Place at)
+    ∙ ap (λ (l : Expression-F Expression). group_layer places (map-Expression Expression Bool (is_over places) l)) (outs-Place at)
 
 module _ (a b : List Value) where
   among_same : (places : List ℕ) (at : ℕ) → values_at places a ≡ values_at places b → is_among places at ≡ true → value_at a at ≡ value_at b at
@@ -77,9 +86,9 @@ pub rests : (e : Expression) → Rests e
 rests = ind-Expression Rests (λ x y is places h a b same.
     value_of_roll a x
     ∙ subst
-        (λ (l : Expression-F Expression). value_layer a (map-Expression Expression (Option Value) (λ e. value_of e a) l) ≡ value_layer b (map-Expression Expression (Option Value) (λ e. value_of e b) l))
-        is
-        (layer_same a b places same y (subst (λ (l : Expression-F Expression). group_layer places (map-Expression Expression Bool (is_over places) l) ≡ true) (sym is) (sym (over_of_layer places x) ∙ h)))
+    (λ (l : Expression-F Expression). value_layer a (map-Expression Expression (Option Value) (λ e. value_of e a) l) ≡ value_layer b (map-Expression Expression (Option Value) (λ e. value_of e b) l))
+    is
+    (layer_same a b places same y (subst (λ (l : Expression-F Expression). group_layer places (map-Expression Expression Bool (is_over places) l) ≡ true) (sym is) (sym (over_of_layer places x) ∙ h)))
     ∙ sym (value_of_roll b x))
 
 item_rests : (places : List ℕ) (o : Output) → item_is_over places o ≡ true → ItemRestsOn places o
@@ -101,8 +110,7 @@ each_rests test P f (x ∷ xs) h = let parts = and_parts (test x) (list_all test
 -- so a bound query tells the same of its tables' rows in any order
 pub suits_groups : (catalog : Catalog) (query : Query) → SuitsQuery catalog query → SuitsGroups query
 suits_groups catalog query suits makes =
-    let grouped = suits.grouped makes in
-    (
+    let grouped = suits.grouped makes in (
       each_rests (item_is_over query.group) (ItemRestsOn query.group) (item_rests query.group) query.outputs grouped.0,
       each_rests (λ (s : Sort). sort_is_over query.group s.by) (λ (s : Sort). SortRestsOn query.group s.by) (λ s h. sort_rests query.group s.by h) query.sort grouped.1,
     )

@@ -77,5 +77,6 @@ pub mod StrangeSound
 pub mod StrangeStops
 pub mod StrangeTells
 pub mod Together
+pub mod Unbound
 pub mod Unsaid
 pub mod Vanishes

@@ -57,10 +57,6 @@ all_append : {X : Type 0} (P : X → Type 0) (xs ys : List X) → AllByRecursion
 all_append P [] ys h i = i
 all_append P (x ∷ xs) ys h i = (h.0, all_append P xs ys h.1 i)
 
-unless_stays : (names : Names) (most : ℕ) (amiss : Bool) (parts : Parts) → PartsFit names most parts → Stays names most (unless amiss parts)
-unless_stays names most true parts f = tt
-unless_stays names most false parts f = f
-
 -- there is nothing amiss where they stand
 unless_known : (names : Names) (most : ℕ) (amiss : Bool) (parts : Parts) → (amiss ≡ false → PartsFit names most parts) → Stays names most (unless amiss parts)
 unless_known names most true parts f = tt

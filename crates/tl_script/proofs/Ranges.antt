@@ -210,7 +210,7 @@ until_range node digits item e =
 
 sign_range : (star colon : Bool) (node : ℕ) (digits : List ℕ) (item : TurnItem)
     → (if star then option_map (λ times. One node times) (number_within 1 100000 digits)
-       else if colon then option_map (λ statement. Until node statement) (number_within 1 1000000 digits) else None) ≡ Some item → IsInSchedule item
+    else if colon then option_map (λ statement. Until node statement) (number_within 1 1000000 digits) else None) ≡ Some item → IsInSchedule item
 sign_range true colon node digits item e = times_range node digits item e
 sign_range false true node digits item e = until_range node digits item e
 sign_range false false node digits item e = absurd (cc)
