@@ -7,4 +7,6 @@ pub mod Growing
 pub mod LineOrder
 pub mod LinesOn
 pub mod Places
+pub mod Reorders
+pub mod Shuffles
 pub mod Truths

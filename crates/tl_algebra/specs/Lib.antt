@@ -1,6 +1,7 @@
 pub mod Aggregate
 pub mod Group
 pub mod Law
+pub mod Order
 pub mod Row
 pub mod Select
 pub mod Sorting

@@ -23,7 +23,7 @@ pub use condition::{Condition, Side};
 pub use edit::{Edit, SetColumn};
 pub use expression::{Expression, Operator, Step};
 pub use fault::ValueFault;
-pub use laws::select_has_one_answer;
+pub use laws::{select_has_one_answer, select_knows_no_order};
 pub use line::{Line, line_of, lines_of};
 pub use product::passes;
 pub use query::{Join, Output, Query, Sort, SortBy};

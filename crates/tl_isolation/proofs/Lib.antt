@@ -1,5 +1,6 @@
 pub mod Lookups
 pub mod Computed
+pub mod Grouped
 pub mod Places
 pub mod Past
 pub mod Known

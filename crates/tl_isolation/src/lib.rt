@@ -11,6 +11,6 @@ mod state;
 
 pub use bound::Bound;
 pub use entry::{Answer, Ending, Entry, Said};
-pub use law::histories_keep_their_promises;
+pub use law::{bound_queries_suit_their_groups, histories_keep_their_promises};
 pub use script::{Script, Session, TurnItem, Vanish, VanishKind};
 pub use state::{Commit, NodeState, SiState, Transaction, TxnPhase};

@@ -66,7 +66,7 @@ use Rattle.tl_journal.specs.Says.{says_at, says_read}
 use Rattle.std.specs.List.{AllByRecursion, list_any}
 use Rattle.tl_cells.specs.Serves.{ServesAll as ShardServes}
 use Rattle.tl_manager.specs.Serves.{ServesAll as ManagerServes}
-use Rattle.tl_journal.specs.Binding.{IsBound, IsKeyed, StatementFits}
+use Rattle.tl_journal.specs.Binding.{IsBound, StatementFits, TableFits}
 use Rattle.tl_journal.specs.Law.{IsRun}
 use Rattle.tl_journal.specs.Run.{EndsAt, IsJournal}
 use Rattle.tl_journal.specs.Schedule.{InTurn, is_refusal, was_cut}
@@ -523,16 +523,22 @@ journal_session =
     }
 
 -- its script is one that the reader lets through
-keyed_t : IsKeyed table_t
-keyed_t = record { columns = (omega arith, tt); some = refl; not_null = (refl, tt) }
+table_fits : TableFits table_t
+table_fits =
+    record {
+      keyed = record { columns = (omega arith, tt); some = refl; not_null = (refl, tt) };
+      once = (refl, tt);
+      key = omega arith;
+      columns = omega arith;
+      indexes = tt;
+      few = omega arith;
+    }
 
 insert_fits : StatementFits catalog_t insert_one
 insert_fits =
     record {
       suits = record { table = omega arith; change = (record { width = refl; values = (fits_account 1 10 refl refl).values; kinds = refl }, tt) };
-      once = tt;
-      keyed = keyed_t;
-      table = record { columns = omega arith; key = omega arith };
+      written = omega arith;
     }
 
 -- a column is printed
@@ -544,29 +550,34 @@ place_fits at e =
 select_fits : StatementFits catalog_t select_one
 select_fits =
     record {
-      suits = record {
-        some = omega arith;
-        few = omega arith;
-        tables = (omega arith, tt);
-        ons = refl;
-        passes = alike_test table_t.columns (side.Place 0) comparison.Equal (side.Literal (number 1));
-        group = refl;
-        outputs = λ i. place_fits 0 refl i && (place_fits 1 refl i && true);
-        sort = refl;
-      };
-      keyed = (keyed_t, tt);
+      some = omega arith;
+      few = omega arith;
+      tables = (omega arith, tt);
+      starts = refl;
+      ons = refl;
+      passes = alike_test table_t.columns (side.Place 0) comparison.Equal (side.Literal (number 1));
+      group = refl;
+      prints = omega arith;
+      outputs = λ i. place_fits 0 refl i && (place_fits 1 refl i && true);
+      sort = refl;
+      grouped = λ e. absurd cc;
     }
 
 bound_one : IsBound script_one by_default
 bound_one =
     record {
-      tables = omega arith;
+      some = omega arith;
+      few = omega arith;
+      tables = (table_fits, tt);
       nodes = ((omega arith, omega arith), tt);
       sessions = (refl, tt);
-      vanishes = tt;
       statements = ((insert_fits, (select_fits, tt)), tt);
+      turns = tt;
+      vanishes = tt;
+      counts = tt;
       opening = tt;
       writes = tt;
+      distinct = refl;
     }
 
 pub run_session : IsRun script_one by_default events_one

@@ -39,10 +39,11 @@ use Rattle.tl_isolation.specs.Step.{own_after}
 use Rattle.tl_isolation.specs.Tables.{FitsTable, Suits, sets_its_kind, table_of}
 use Rattle.tl_isolation.proofs.Computed.{set_value}
 use Rattle.tl_isolation.proofs.Lookups.{all_filter, all_map, some_same}
-use Rattle.tl_journal.specs.Binding.{KeyFits, StatementFits, TableFits, WriteFits}
+use Rattle.tl_journal.specs.Binding.{KeyFits, TableFits, WriteFits}
 use Rattle.tl_journal.specs.Takes.{first_rows, view_changed}
 use Rattle.tl_journal.proofs.Fits.{RowFits}
 use Rattle.tl_journal.proofs.RowSizes.{key_fits, not_long, row_fits, row_from}
+use Rattle.tl_journal.proofs.Stated.{StatementOn}
 
 -- the own writes of a transaction
 pub record OwnFits (own : List Write) : Type 0 where
@@ -180,11 +181,11 @@ replaced_fits : (table : Table) (key : List ℕ) (o : Option (List Value)) → K
 replaced_fits table key None k f = tt
 replaced_fits table key (Some row) k f = (k, f row refl)
 
-additions_fit : (number : ℕ) (table : Table) (rows : List (List Value)) → length table.columns < 256 → AllByRecursion (FitsTable table) rows
+additions_fit : (number : ℕ) (table : Table) (rows : List (List Value)) → length table.columns ≤ 32 → AllByRecursion (FitsTable table) rows
     → AllByRecursion (DeedFits table) (map (λ (row : List Value). Add (record_key number table row) row) rows)
 additions_fit number table [] narrow h = tt
 additions_fit number table (row ∷ rows) narrow h =
-    (((number, refl), record { count = rw (h.0.width) narrow; values = h.0.values }), additions_fit number table rows narrow h.1)
+    (((number, refl), record { count = rw (h.0.width) (omega (arith, narrow)); values = h.0.values }), additions_fit number table rows narrow h.1)
 
 deeds_fit : (catalog : Catalog) (edit : Edit) (tables : Tables) → Suits catalog edit → TableFits (table_of catalog (number_of edit)) → AreRecords tables
     → AllByRecursion (DeedFits (table_of catalog (number_of edit))) (deeds edit (table_of catalog (number_of edit)) tables)
@@ -380,7 +381,7 @@ view_fits catalog edit own rows few o h =
     (laid_fits finmap.empty read none_there (read_writes (number_of edit) (table_in catalog edit) (first_rows rows) few (first_fit rows h))) o
 
 -- the own writes after a change, by rows that were read
-pub change_fits : (catalog : Catalog) (edit : Edit) (own : List Write) (rows : List (List (List Value))) → StatementFits catalog (bound.Change edit) → OwnFits own
+pub change_fits : (catalog : Catalog) (edit : Edit) (own : List Write) (rows : List (List (List Value))) → StatementOn catalog (bound.Change edit) → OwnFits own
     → AllByRecursion (AllByRecursion RowFits) rows → OwnFits (own_after (change_of catalog edit (view_changed catalog edit own rows) own) own)
 change_fits catalog edit own rows s o h = by (change_of catalog edit (view_changed catalog edit own rows) own) refl
   where

@@ -11,7 +11,6 @@ use Rattle.tl_isolation.specs.declared.entry.Answer.{Answer}
 use Rattle.tl_protocol.specs.Store.{CommitsCell, Key, LogCell}
 use Rattle.tl_protocol.specs.World.{Decision, Fact, Loaded, Txn}
 use Rattle.tl_protocol.specs.Run.{Layout}
-use Rattle.tl_journal.specs.Binding.{StatementFits}
 use Rattle.tl_journal.specs.Ask.{Ask}
 use Rattle.tl_journal.specs.Asks.{asks}
 use Rattle.tl_journal.specs.Node.{Claimed, Lost, Doing, Outside, Noted, Drawing, Bringing, Inside, Reading, Trying, Stores, Removes, Closing, Ending, Recovering, ReadingLog, Stripping, Finishing, EndingLost, Stopped, Node}
@@ -24,6 +23,7 @@ use Rattle.tl_journal.proofs.Goings.{Steps, steps_at}
 use Rattle.tl_journal.proofs.Insides.{outside_goes}
 use Rattle.tl_journal.proofs.Recoveries.{end_lost_steps, finishing_steps, reading_log_steps, recover_steps_few, recovering_steps, stripping_steps}
 use Rattle.tl_journal.proofs.Sizes.{DoingFits}
+use Rattle.tl_journal.proofs.Stated.{StatementOn}
 
 abbrev pub is_inside : Doing → Bool
 is_inside (Inside t) = true
@@ -34,11 +34,11 @@ module _ (R : Txn → List Fact → Reads → Type 0) (layout : Layout) (setup :
   recovers node later gone some least n ask e w state entries reply answer after b s m =
       recover_steps_few R layout setup settings (so_far node (bound.Recover gone ∷ later) Outside) (bound.Recover gone) later gone refl refl refl some least n ask e w state entries reply answer after b s b.few
 
-  outside : (node : Node) (statement : Bound) (later : List Bound) → StatementFits setup.catalog statement
+  outside : (node : Node) (statement : Bound) (later : List Bound) → StatementOn setup.catalog statement
       → Steps R layout setup settings (so_far node (statement ∷ later) Outside)
   outside node statement later fits =
       outside_goes R layout setup settings node statement later
-      (λ gone e. let f : StatementFits setup.catalog (bound.Recover gone) = subst (StatementFits setup.catalog) e fits in recovers node later gone f.0 f.1)
+      (λ gone e. let f : StatementOn setup.catalog (bound.Recover gone) = subst (StatementOn setup.catalog) e fits in recovers node later gone f.0 f.1)
 
   -- a node that stopped asks nothing
   stopped_asks : (node : Node) (nodes : NodeSet) → node.doing ≡ Stopped nodes → Steps R layout setup settings node
@@ -52,7 +52,7 @@ module _ (R : Txn → List Fact → Reads → Type 0) (layout : Layout) (setup :
     as_said : (doing : Doing) → node.doing ≡ doing → Steps R layout setup settings (so_far node (statement ∷ later) doing) → Steps R layout setup settings node
     as_said doing f h = steps_at R layout setup settings node (statement ∷ later) doing e f h
 
-    outside_said : node.doing ≡ Outside → StatementFits setup.catalog statement → Steps R layout setup settings node
+    outside_said : node.doing ≡ Outside → StatementOn setup.catalog statement → Steps R layout setup settings node
     outside_said f fits = as_said Outside f (outside node statement later fits)
 
     noted_said : (seen : TidSet) → node.doing ≡ Noted seen → Steps R layout setup settings node
@@ -77,7 +77,7 @@ module _ (R : Txn → List Fact → Reads → Type 0) (layout : Layout) (setup :
         → DoingFits few (Stripping c o log keys l) → Steps R layout setup settings node
     stripping_said few c o log keys l f sizes = stripping_steps R layout setup settings node statement later e c o log keys l f sizes.1.spelled.writes.rising
 
-    by_doing : (few : ℕ) (doing : Doing) → node.doing ≡ doing → StatementFits setup.catalog statement → DoingFits few doing
+    by_doing : (few : ℕ) (doing : Doing) → node.doing ≡ doing → StatementOn setup.catalog statement → DoingFits few doing
         → is_reading doing ≡ false → is_inside doing ≡ false → Steps R layout setup settings node
     by_doing few Outside f fits sizes r i = outside_said f fits
     by_doing few (Noted seen) f fits sizes r i = noted_said seen f
@@ -99,5 +99,5 @@ module _ (R : Txn → List Fact → Reads → Type 0) (layout : Layout) (setup :
 
   -- but for what is done inside a transaction, statement by statement
   pub doing_goes : (node : Node) (statement : Bound) (later : List Bound) (few : ℕ) → node.todo ≡ statement ∷ later
-      → StatementFits setup.catalog statement → DoingFits few node.doing → is_reading node.doing ≡ false → is_inside node.doing ≡ false → Steps R layout setup settings node
+      → StatementOn setup.catalog statement → DoingFits few node.doing → is_reading node.doing ≡ false → is_inside node.doing ≡ false → Steps R layout setup settings node
   doing_goes node statement later few e = by_doing node statement later e few node.doing refl

@@ -57,6 +57,7 @@ pub mod Shards
 pub mod Sizes
 pub mod Speaking
 pub mod Spoken
+pub mod Stated
 pub mod Statements
 pub mod Stood
 pub mod Store
@@ -78,6 +79,7 @@ pub mod StrangeSound
 pub mod StrangeStops
 pub mod StrangeTells
 pub mod Together
+pub mod Unbound
 pub mod Unlawful
 pub mod Unsaid
 pub mod Vanishes

@@ -18,7 +18,6 @@ use Rattle.tl_isolation.specs.History.{state_after}
 use Rattle.tl_isolation.specs.Script.{setup_of}
 use Rattle.tl_protocol.specs.Run.{Layout, Reach}
 use Rattle.tl_protocol.proofs.Frames.{some_same}
-use Rattle.tl_journal.specs.Binding.{StatementFits}
 use Rattle.tl_journal.specs.declared.event.Event.{Event}
 use Rattle.tl_journal.specs.Ask.{Ask, AskManager}
 use Rattle.tl_journal.specs.Asks.{asks}
@@ -38,13 +37,14 @@ use Rattle.tl_journal.proofs.Meets.{Before}
 use Rattle.tl_journal.proofs.Present.{GoesFor, ReadsFor, StepsFor, steps_for, steps_for_at}
 use Rattle.tl_journal.proofs.Shards.{DoingAt}
 use Rattle.tl_journal.proofs.Sizes.{DoingFits, NodeFits, takes_fit}
+use Rattle.tl_journal.proofs.Stated.{StatementOn}
 use Rattle.tl_journal.proofs.Statements.{inside_steps, reading_goes}
 use Rattle.tl_journal.proofs.Store.{StoreIs}
 use Rattle.tl_journal.proofs.Stood.{Heeds, NodeStands, Stood, own_stands, still_stands, vanished_same}
 
 module _ (layout : Layout) (setup : Setup) (settings : Settings) (some : 1 ≤ settings.shards) where
   -- a node that is doing this, for the sake of this statement
-  present : (few : ℕ) (node : Node) (statement : Bound) (later : List Bound) → node.todo ≡ statement ∷ later → StatementFits setup.catalog statement
+  present : (few : ℕ) (node : Node) (statement : Bound) (later : List Bound) → node.todo ≡ statement ∷ later → StatementOn setup.catalog statement
       → DoingFits few node.doing → (doing : Doing) → node.doing ≡ doing → StepsFor layout setup settings node
   present few node statement later e f sizes (Reading t reads) g =
       steps_for_at layout setup settings node (statement ∷ later) (Reading t reads) e g (reading_goes layout setup settings statement f node later t reads)
@@ -60,10 +60,10 @@ module _ (layout : Layout) (setup : Setup) (settings : Settings) (some : 1 ≤ s
       none : (ask : Ask) → None ≡ Some ask → ⊥
       none ask e = cc
 
-  pub steps_any : (few : ℕ) (node : Node) → AllByRecursion (StatementFits setup.catalog) node.todo → DoingFits few node.doing → StepsFor layout setup settings node
+  pub steps_any : (few : ℕ) (node : Node) → AllByRecursion (StatementOn setup.catalog) node.todo → DoingFits few node.doing → StepsFor layout setup settings node
   steps_any few node fits sizes = by node.todo refl fits
     where
-      by : (todo : List Bound) → node.todo ≡ todo → AllByRecursion (StatementFits setup.catalog) todo → StepsFor layout setup settings node
+      by : (todo : List Bound) → node.todo ≡ todo → AllByRecursion (StatementOn setup.catalog) todo → StepsFor layout setup settings node
       by [] e f = answered_asks node e
       by (statement ∷ later) e f = present few node statement later e f.0 sizes node.doing refl
 

@@ -47,13 +47,14 @@ use Rattle.tl_protocol.specs.Move.{Changes}
 use Rattle.tl_protocol.proofs.Laid.{get_laid}
 use Rattle.tl_protocol.proofs.Homes.{laid_home}
 use Rattle.tl_protocol.proofs.Shown.{AreHomeWrites}
-use Rattle.tl_journal.specs.Binding.{IsKeyed, StatementFits}
+use Rattle.tl_journal.specs.Binding.{IsKeyed, TableFits}
 use Rattle.tl_journal.specs.Reads.{Read, Point, edit_reads, query_reads, range_of, read_of, reads_of, table_key}
 use Rattle.tl_journal.specs.Takes.{own_said, tables_seen, view_changed, view_read}
 use Rattle.tl_journal.proofs.Keyed.{key_known, key_of_values, key_short, key_within}
 use Rattle.tl_journal.proofs.KeyOrder.{compared_in, in_table, same_itself, tie}
 use Rattle.tl_journal.proofs.Facts.{Among, AreGathered, IsGathered, done, own_key, reach, reaches}
 use Rattle.tl_journal.proofs.Records.{each_record, part_records}
+use Rattle.tl_journal.proofs.Stated.{StatementOn}
 
 -- ---- a row that lies within an access is read
 
@@ -298,13 +299,13 @@ told_same query reads wholes (answer.Recovered n) e h = absurd h
 told_same query reads wholes (answer.There n) e h = absurd h
 
 -- the tables that a query joins are keyed
-keyed_numbers : (catalog : Catalog) (from : List Join) → AllByRecursion (λ (join : Join). IsKeyed (table_of catalog join.table)) from
+keyed_numbers : (catalog : Catalog) (from : List Join) → AllByRecursion (λ (join : Join). TableFits (table_of catalog join.table)) from
     → AllByRecursion (λ number. IsKeyed (table_of catalog number)) (map (λ (join : Join). join.table) from)
 keyed_numbers catalog [] h = tt
-keyed_numbers catalog (join ∷ from) h = (h.0, keyed_numbers catalog from h.1)
+keyed_numbers catalog (join ∷ from) h = (h.0.keyed, keyed_numbers catalog from h.1)
 
 pub select_means : (shards : ℕ) (catalog : Catalog) (facts : List Fact) (own : List Write) (query : Query) (rows : List (List (List Value))) (told : Answer)
-    → StatementFits catalog (bound.Select query) → AreHomeWrites catalog own → AreGathered shards catalog facts (numbers_of query) (query_reads catalog query) (map done rows)
+    → StatementOn catalog (bound.Select query) → AreHomeWrites catalog own → AreGathered shards catalog facts (numbers_of query) (query_reads catalog query) (map done rows)
     → QueryAnswers query (tables_seen catalog (numbers_of query) own rows) told
     → (tables : Tables) → AreHome catalog tables → Agrees tables facts → SelectAnswers query (laid_over tables own) told
 select_means shards catalog facts own query rows told fits own_home g h tables home agrees =
@@ -316,7 +317,7 @@ select_means shards catalog facts own query rows told fits own_home g h tables h
     AreRead (map (table_of catalog) (numbers_of query)) (accesses_of (map (table_of catalog) (numbers_of query)) 0 query.filter) wholes
     (tables_seen catalog (numbers_of query) own rows))
     (same_rows query.from (laid_over tables own))
-    (are_read shards catalog facts tables home agrees own own_home (numbers_of query) 0 query.filter rows (keyed_numbers catalog query.from fits.keyed) g)))
+    (are_read shards catalog facts tables home agrees own own_home (numbers_of query) 0 query.filter rows (keyed_numbers catalog query.from fits.tables) g)))
     h
 
 -- ---- a change
@@ -415,11 +416,11 @@ module _ (shards : ℕ) (catalog : Catalog) (facts : List Fact) (tables : Tables
       (sees_all edit rows suits keyed g)
 
 pub change_means : (shards : ℕ) (catalog : Catalog) (facts : List Fact) (own : List Write) (edit : Edit) (rows : List (List (List Value))) (told : Answer)
-    → StatementFits catalog (bound.Change edit) → AreHomeWrites catalog own
+    → StatementOn catalog (bound.Change edit) → AreHomeWrites catalog own
     → AreGathered shards catalog facts (number_of edit ∷ []) (edit_reads catalog edit ∷ []) (map done rows)
     → told_of (change_of catalog edit (view_changed catalog edit own rows) own) ≡ Some told
     → (tables : Tables) → AreHome catalog tables → Agrees tables facts → Changes catalog edit tables own told (own_said catalog (bound.Change edit) own rows)
 change_means shards catalog facts own edit [] told fits own_home g h tables home agrees = absurd g
 change_means shards catalog facts own edit (found ∷ rows) told fits own_home g h tables home agrees =
-    let same = change_same shards catalog facts tables home agrees own own_home edit found fits.suits fits.keyed g.0 in
+    let same = change_same shards catalog facts tables home agrees own own_home edit found fits.suits fits.table.keyed g.0 in
     record { answer = ap told_of (sym same) ∙ h; leaves = ap (λ (r : Result Effect ChangeFault). own_after r own) (sym same) }

@@ -46,6 +46,7 @@ use Rattle.tl_journal.proofs.Fits.{AskFits, EntryFits, FoundFits, HandFits, Hear
 use Rattle.tl_journal.proofs.RowSizes.{more_versions, prune_fits, push_fits, strip_fits}
 use Rattle.tl_journal.proofs.ReadSizes.{OptionFits, begin_fits, read_asked, reply_fits, tables_fit}
 use Rattle.tl_journal.proofs.ChangeSizes.{OwnFits, change_fits}
+use Rattle.tl_journal.proofs.Stated.{StatementOn, all_stated}
 
 -- ---- what fits
 
@@ -92,7 +93,7 @@ DoingFits few doing = Unit {0}
 pub record NodeFits (settings : Settings) (catalog : Catalog) (few : ℕ) (node : Node) : Type 0 where
   pub least : 1 ≤ node.number
   pub greatest : node.number ≤ 16
-  pub todo : AllByRecursion (StatementFits catalog) node.todo
+  pub todo : AllByRecursion (StatementOn catalog) node.todo
   pub doing : DoingFits few node.doing
 
 -- a manager gives no number above 2^62, and begins no transaction whose snapshot has its own number
@@ -156,7 +157,8 @@ pub opening_fits : (script : Script) (settings : Settings) (few n : ℕ) (sessio
     → NodeFits settings script.catalog few (opening_node settings session)
 opening_fits script settings few n session b e =
     let number = found (λ (s : Session). (1 ≤ s.node) × (s.node ≤ 16)) (λ (s : Session). eqb s.node n) script.sessions session b.nodes e in
-    let todo = found (λ (s : Session). AllByRecursion (StatementFits script.catalog) s.statements) (λ (s : Session). eqb s.node n) script.sessions session b.statements e in
+    let fits = found (λ (s : Session). AllByRecursion (StatementFits script.catalog) s.statements) (λ (s : Session). eqb s.node n) script.sessions session b.statements e in
+    let todo = all_stated script.catalog session.statements b.tables fits in
     record { least = number.0; greatest = number.1; todo = todo; doing = tt }
 
 -- ---- what is asked
@@ -353,7 +355,7 @@ with_own : (t : Txn) (own : List Write) (stage : Stage) → TxnFits t → OwnFit
 with_own t own stage h o = record { tid = h.tid; unseen = h.unseen; own = o.writes; few = o.few; rising = o.rising }
 
 -- the own writes once a statement is said
-said_fits : (catalog : Catalog) (statement : Bound) (own : List Write) (rows : List (List (List Value))) → StatementFits catalog statement → OwnFits own
+said_fits : (catalog : Catalog) (statement : Bound) (own : List Write) (rows : List (List (List Value))) → StatementOn catalog statement → OwnFits own
     → AllByRecursion (AllByRecursion RowFits) rows → OwnFits (own_said catalog statement own rows)
 said_fits catalog (bound.Change edit) own rows s o h = change_fits catalog edit own rows s o h
 said_fits catalog (bound.Select query) own rows s o h = o
@@ -378,8 +380,8 @@ module _ (settings : Settings) (catalog : Catalog) (few : ℕ) where
   learnt_fits : (node : Node) (m : ℕ) (floor : TidSet) → Fits node → Fits (learnt node m floor)
   learnt_fits node m floor h = record { least = h.least; greatest = h.greatest; todo = h.todo; doing = h.doing }
 
-  answered_rest : (node : Node) (todo : List Bound) (told : Answer) (doing : Doing) → AllByRecursion (StatementFits catalog) todo
-      → AllByRecursion (StatementFits catalog) (answered (record node { todo = todo }) told doing).todo
+  answered_rest : (node : Node) (todo : List Bound) (told : Answer) (doing : Doing) → AllByRecursion (StatementOn catalog) todo
+      → AllByRecursion (StatementOn catalog) (answered (record node { todo = todo }) told doing).todo
   answered_rest node [] told doing h = tt
   answered_rest node (statement ∷ later) told doing h = h.1
 
@@ -418,7 +420,7 @@ module _ (settings : Settings) (catalog : Catalog) (few : ℕ) where
   bringing_takes node seen heard h = stops node h
 
   -- a statement
-  stage_fits : (node : Node) (statement : Bound) (t : Txn) (stage : Stage) (rows : List (List (List Value))) (told : Answer) → Fits node → StatementFits catalog statement → TxnFits t
+  stage_fits : (node : Node) (statement : Bound) (t : Txn) (stage : Stage) (rows : List (List (List Value))) (told : Answer) → Fits node → StatementOn catalog statement → TxnFits t
       → AllByRecursion (AllByRecursion RowFits) rows → Fits (said catalog node statement (record t { stage = stage }) rows told)
   stage_fits node statement t Fresh rows told h s f r =
       doing_fits node (Inside _) h (with_own t (own_said catalog statement t.own rows) _ f (said_fits catalog statement t.own rows s (own_of t f) r))
@@ -427,13 +429,13 @@ module _ (settings : Settings) (catalog : Catalog) (few : ℕ) where
   stage_fits node statement t (Answering before) rows told h s f r =
       doing_fits node (Inside _) h (with_own t (own_said catalog statement t.own rows) _ f (said_fits catalog statement t.own rows s (own_of t f) r))
 
-  on_fits : (node : Node) (statement : Bound) (t : Txn) (reads : Reads) (left : List Read) (told : Answer) → Fits node → StatementFits catalog statement → TxnFits t
+  on_fits : (node : Node) (statement : Bound) (t : Txn) (reads : Reads) (left : List Read) (told : Answer) → Fits node → StatementOn catalog statement → TxnFits t
       → ReadsFit (record reads { left = left }) → Fits (goes_on catalog node statement t (record reads { left = left }) told)
   on_fits node statement t reads [] told h s f r =
       let read : Reads = record reads { left = [] } in stage_fits node statement t t.stage (tables_read read) told h s f (tables_fit read r)
   on_fits node statement t reads (read ∷ left) told h s f r = doing_fits node (Reading t (record reads { left = read ∷ left })) h (f, r)
 
-  read_takes : (node : Node) (statement : Bound) (t : Txn) (reads : Reads) (heard : Heard) (told : Answer) → Fits node → StatementFits catalog statement → TxnFits t → ReadsFit reads
+  read_takes : (node : Node) (statement : Bound) (t : Txn) (reads : Reads) (heard : Heard) (told : Answer) → Fits node → StatementOn catalog statement → TxnFits t → ReadsFit reads
       → HeardFits few heard → Fits (takes_read settings catalog node statement t reads heard told)
   read_takes node statement t reads heard told h s f r g =
       elim (after_reply settings t.snapshot reads reads.left heard) as (λ o. OptionFits o → after_reply settings t.snapshot reads reads.left heard ≡ o
@@ -446,7 +448,7 @@ module _ (settings : Settings) (catalog : Catalog) (few : ℕ) where
   rows_begun : (statement : Bound) → AllByRecursion (AllByRecursion RowFits) (tables_read (begin_reads (all_reads catalog statement)))
   rows_begun statement = tables_fit (begin_reads (all_reads catalog statement)) (begin_fits catalog statement)
 
-  idle_fits : (node : Node) (statement : Bound) (t : Txn) (reads : Reads) (told : Answer) → Fits node → StatementFits catalog statement → TxnFits t
+  idle_fits : (node : Node) (statement : Bound) (t : Txn) (reads : Reads) (told : Answer) → Fits node → StatementOn catalog statement → TxnFits t
       → AllByRecursion (AllByRecursion RowFits) (tables_read reads) → Fits (idles catalog node statement t reads told)
   idle_fits node bound.Begin t reads told h s f r = answered_fits node answer.Nested (Inside t) h f
   idle_fits node (bound.Recover gone) t reads told h s f r = answered_fits node answer.Nested (Inside t) h f
@@ -455,7 +457,7 @@ module _ (settings : Settings) (catalog : Catalog) (few : ℕ) where
   idle_fits node bound.Commit t reads told h s f r = stage_fits node bound.Commit t t.stage (tables_read reads) told h s f r
   idle_fits node bound.Rollback t reads told h s f r = stage_fits node bound.Rollback t t.stage (tables_read reads) told h s f r
 
-  idle_takes : (node : Node) (statement : Bound) (t : Txn) (heard : Heard) (told : Answer) → Fits node → StatementFits catalog statement → TxnFits t
+  idle_takes : (node : Node) (statement : Bound) (t : Txn) (heard : Heard) (told : Answer) → Fits node → StatementOn catalog statement → TxnFits t
       → Fits (takes_idle settings catalog node statement t heard told)
   idle_takes node statement t (Told (manager.FloorIs floor)) told h s f =
       idle_fits (learnt node (home_of settings node.number) floor) statement t (begin_reads (all_reads catalog statement)) told
@@ -476,7 +478,7 @@ module _ (settings : Settings) (catalog : Catalog) (few : ℕ) where
   give_up_takes node t (Commits c) h f g = doing_fits node (Closing t (Undo None) (Some c)) h (f, g)
   give_up_takes node t heard h f g = stops node h
 
-  inside_takes : (node : Node) (statement : Bound) (t : Txn) (course : Course) (heard : Heard) (told : Answer) → Fits node → StatementFits catalog statement → TxnFits t
+  inside_takes : (node : Node) (statement : Bound) (t : Txn) (course : Course) (heard : Heard) (told : Answer) → Fits node → StatementOn catalog statement → TxnFits t
       → CourseFits course → HeardFits few heard → Fits (takes_inside settings catalog node statement t course heard told)
   inside_takes node statement t (ToRead reads) heard told h s f c g = read_takes node statement t reads heard told h s f c g
   inside_takes node statement t ToIdle heard told h s f c g = idle_takes node statement t heard told h s f
@@ -577,7 +579,7 @@ module _ (settings : Settings) (catalog : Catalog) (few : ℕ) where
   end_lost_takes node c o (Told manager.Ended) h f = lost_fits node c o.node o.others h f.others
   end_lost_takes node c o heard h f = stops node h
 
-  doing_takes : (node : Node) (statement : Bound) (doing : Doing) (heard : Heard) (told : Answer) → Fits node → StatementFits catalog statement → DoingFits few doing
+  doing_takes : (node : Node) (statement : Bound) (doing : Doing) (heard : Heard) (told : Answer) → Fits node → StatementOn catalog statement → DoingFits few doing
       → HeardFits few heard → ToldFits heard → Fits (takes_doing settings catalog node statement doing heard told)
   doing_takes node statement Outside heard told h s d g t = outside_takes node (course_outside statement) heard h
   doing_takes node statement (Noted seen) heard told h s d g t = noted_takes node statement seen heard h t

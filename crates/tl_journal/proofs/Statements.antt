@@ -42,7 +42,6 @@ use Rattle.tl_protocol.proofs.Inv.{base}
 use Rattle.tl_protocol.proofs.Reached.{Reached, reached}
 use Rattle.tl_protocol.proofs.Shown.{AreHomeWrites, AreKeyed}
 use Rattle.tl_protocol.proofs.Steps.{node_at, numbered}
-use Rattle.tl_journal.specs.Binding.{StatementFits}
 use Rattle.tl_journal.specs.Ask.{Found, Heard, Told}
 use Rattle.tl_journal.specs.Bytes.{home_of}
 use Rattle.tl_journal.specs.Reads.{Read, Point, Range, Reads, all_reads, begin_reads, tables_read, take_cell, take_page}
@@ -57,6 +56,7 @@ use Rattle.tl_journal.proofs.Goings.{going, going_two, is_floor, is_vanishing, m
 use Rattle.tl_journal.proofs.Insides.{inside_goes}
 use Rattle.tl_journal.proofs.Present.{GoesFor, ReadsFor, StepsFor, goes_other, steps_for, steps_for_as}
 use Rattle.tl_journal.proofs.Seen.{change_means, select_means}
+use Rattle.tl_journal.proofs.Stated.{StatementOn}
 
 -- ---- what a statement comes to
 
@@ -150,7 +150,7 @@ record Says (catalog : Catalog) (v : World) (n number : ℕ) (statement : Bound)
 
 module _ (settings : Settings) (catalog : Catalog) (v : World) (n number : ℕ) (t : Txn) (facts : List Fact) (reads : Reads) (told : Answer) (is_catalog : v.catalog ≡ catalog)
     (at : At v n (protocol.Live t facts)) (own_home : AreHomeWrites catalog t.own) where
-  say_select : (query : Query) → StatementFits catalog (bound.Select query) → ReadsOk settings catalog (bound.Select query) t facts reads → reads.left ≡ []
+  say_select : (query : Query) → StatementOn catalog (bound.Select query) → ReadsOk settings catalog (bound.Select query) t facts reads → reads.left ≡ []
       → Means catalog (bound.Select query) t.own (tables_read reads) told → Says catalog v n number (bound.Select query) t (tables_read reads) told
   say_select query fits r e means = record {
     it = move.SaySelect n number query told t facts at r.takes
@@ -163,7 +163,7 @@ module _ (settings : Settings) (catalog : Catalog) (v : World) (n number : ℕ) 
     leads = refl;
   }
 
-  say_change : (edit : Edit) → StatementFits catalog (bound.Change edit) → ReadsOk settings catalog (bound.Change edit) t facts reads → reads.left ≡ []
+  say_change : (edit : Edit) → StatementOn catalog (bound.Change edit) → ReadsOk settings catalog (bound.Change edit) t facts reads → reads.left ≡ []
       → Means catalog (bound.Change edit) t.own (tables_read reads) told → Says catalog v n number (bound.Change edit) t (tables_read reads) told
   say_change edit fits r e means = record {
     it = move.SayChange n number edit told (own_said catalog (bound.Change edit) t.own (tables_read reads)) t facts at r.takes
@@ -178,7 +178,7 @@ module _ (settings : Settings) (catalog : Catalog) (v : World) (n number : ℕ) 
     leads = refl;
   }
 
-  say : (statement : Bound) → StatementFits catalog statement → ReadsOk settings catalog statement t facts reads → reads.left ≡ []
+  say : (statement : Bound) → StatementOn catalog statement → ReadsOk settings catalog statement t facts reads → reads.left ≡ []
       → Means catalog statement t.own (tables_read reads) told → Says catalog v n number statement t (tables_read reads) told
   say (bound.Select query) fits r e means = say_select query fits r e means
   say (bound.Change edit) fits r e means = say_change edit fits r e means
@@ -319,7 +319,7 @@ module _ (layout : Layout) (setup : Setup) (settings : Settings) (statement : Bo
         (turn new u refl refl floors (phase, rises) no_duty (inside_any after_txn (opened_present told t.stage opened) later)))))
         (stage_cases t.stage takes)
 
-  module _ (fits : StatementFits setup.catalog statement) (w : World) (state : SiState) (entries : List Entry) (node : Node) (later : List Bound) (doing : Doing) (t : Txn)
+  module _ (fits : StatementOn setup.catalog statement) (w : World) (state : SiState) (entries : List Entry) (node : Node) (later : List Bound) (doing : Doing) (t : Txn)
       (b : Before R layout setup settings w state entries node.number (standing node (statement ∷ later) doing)) (own_ok : OwnOk t.own)
       (facts : List Fact) (live : w.phases node.number ≡ protocol.Live t facts) (free : w.recoveries node.number ≡ protocol.NoDuty) (told : Answer) where
     abbrev now : Node
@@ -399,7 +399,7 @@ module _ (layout : Layout) (setup : Setup) (settings : Settings) (statement : Bo
             (subst (λ (l : List Read). R t facts (record reads { left = l })) e r)) m)
             means
 
-  module _ (fits : StatementFits setup.catalog statement) where
+  module _ (fits : StatementOn setup.catalog statement) where
     -- while it reads
     pub reading_goes : (node : Node) (later : List Bound) (t : Txn) (reads : Reads) → StepsFor layout setup settings (standing node (statement ∷ later) (Reading t reads))
     reading_goes node later t reads =

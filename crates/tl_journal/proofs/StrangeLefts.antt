@@ -28,7 +28,6 @@ use Rattle.tl_protocol.specs.Move.{is_empty}
 use Rattle.tl_protocol.specs.Next.{begun_txn}
 use Rattle.tl_protocol.proofs.Held.{vanished_here}
 use Rattle.tl_journal.specs.declared.event.Event.{Event}
-use Rattle.tl_journal.specs.Binding.{StatementFits}
 use Rattle.tl_journal.specs.Ask.{Ask, Heard, Commits, Log, Record, Stored, Moved, Numbers, Told}
 use Rattle.tl_journal.specs.Asks.{Course, ToBegin, ToRead, ToIdle, ToCommit, ToGiveUp, ToRecover, asks, course_in, course_outside, reading_course, statement_course}
 use Rattle.tl_journal.specs.Bytes.{heard, home_of}
@@ -39,6 +38,7 @@ use Rattle.tl_journal.specs.Reads.{Read, Reads, all_reads, begin_reads, tables_r
 use Rattle.tl_journal.specs.Takes.{after_reply, answered, begins, by_flag, finds, goes_on, idles, learnt, next_duty, next_lost, said, takes, takes_bringing, takes_closing, takes_commit, takes_doing, takes_drawing, takes_end_lost, takes_ending, takes_finishing, takes_give_up, takes_idle, takes_inside, takes_log, takes_noted, takes_outside, takes_read, takes_recovering, takes_removing, takes_storing, takes_stripping, takes_trying, with_doing}
 use Rattle.tl_journal.proofs.Meets.{members}
 use Rattle.tl_journal.proofs.Owed.{members_count, members_filter}
+use Rattle.tl_journal.proofs.Stated.{StatementOn}
 
 abbrev pub LeftIs : Doing → Type 0
 LeftIs (Reading t reads) = is_empty reads.left ≡ false
@@ -93,7 +93,7 @@ abbrev OutsideIs : Course → Type 0
 OutsideIs (ToRecover gone) = (1 ≤ gone) × (gone ≤ 16)
 OutsideIs course = Unit {0}
 
-outside_is : (catalog : Catalog) (statement : Bound) → StatementFits catalog statement → OutsideIs (course_outside statement)
+outside_is : (catalog : Catalog) (statement : Bound) → StatementOn catalog statement → OutsideIs (course_outside statement)
 outside_is catalog bound.Begin h = tt
 outside_is catalog (bound.Select query) h = tt
 outside_is catalog (bound.Change edit) h = tt
@@ -105,7 +105,7 @@ outside_is catalog (bound.Recover gone) h = h
 
 module _ (settings : Settings) (catalog : Catalog) where
   abbrev TodoFits : Node → Type 0
-  TodoFits node = AllByRecursion (StatementFits catalog) node.todo
+  TodoFits node = AllByRecursion (StatementOn catalog) node.todo
 
   -- the statements that are left fit, and something is left to read or to recover
   abbrev Lasts : Node → Type 0
@@ -115,7 +115,7 @@ module _ (settings : Settings) (catalog : Catalog) where
   later_fits : (node : Node) → TodoFits node → TodoFits (answered node answer.Begun Outside)
   later_fits node = by node.todo
     where
-      by : (todo : List Bound) → AllByRecursion (StatementFits catalog) todo → TodoFits (answered (record node { todo = todo }) answer.Begun Outside)
+      by : (todo : List Bound) → AllByRecursion (StatementOn catalog) todo → TodoFits (answered (record node { todo = todo }) answer.Begun Outside)
       by [] h = tt
       by (statement ∷ later) h = h.1
 
@@ -275,7 +275,7 @@ module _ (settings : Settings) (catalog : Catalog) where
   end_lost_lasts node c o (Told manager.Ended) h = lost_lasts node c o.node o.others h
   end_lost_lasts node c o answer h = (h, tt)
 
-  doing_lasts : (node : Node) (statement : Bound) (doing : Doing) (answer : Heard) (told : Answer) → StatementFits catalog statement → Lasts node
+  doing_lasts : (node : Node) (statement : Bound) (doing : Doing) (answer : Heard) (told : Answer) → StatementOn catalog statement → Lasts node
       → Lasts (takes_doing settings catalog node statement doing answer told)
   doing_lasts node statement Outside answer told f h = outside_lasts node (course_outside statement) answer (outside_is catalog statement f) h.0
   doing_lasts node statement (Noted seen) answer told f h = noted_lasts node statement seen answer h.0
@@ -298,7 +298,7 @@ module _ (settings : Settings) (catalog : Catalog) where
   takes_lasts : (node : Node) (answer : Heard) (told : Answer) → Lasts node → Lasts (takes settings catalog node answer told)
   takes_lasts node answer told = by node.todo
     where
-      by : (todo : List Bound) → AllByRecursion (StatementFits catalog) todo × LeftIs node.doing → Lasts (takes settings catalog (record node { todo = todo }) answer told)
+      by : (todo : List Bound) → AllByRecursion (StatementOn catalog) todo × LeftIs node.doing → Lasts (takes settings catalog (record node { todo = todo }) answer told)
       by [] h = h
       by (statement ∷ later) h = doing_lasts (record node { todo = statement ∷ later }) statement node.doing answer told h.0.0 h
 
@@ -324,5 +324,5 @@ module _ (settings : Settings) (script : Script) where
   events_last node (e ∷ events) h = events_last (after_event settings script e node) events (event_lasts e node h)
 
   -- what is left of a node of the script
-  pub left_after : (past : List Event) (session : Session) → AllByRecursion (StatementFits script.catalog) session.statements → LeftIs (node_after settings script past session).doing
+  pub left_after : (past : List Event) (session : Session) → AllByRecursion (StatementOn script.catalog) session.statements → LeftIs (node_after settings script past session).doing
   left_after past session fits = (events_last (opening_node settings session) past (fits, tt)).1

@@ -33,6 +33,7 @@ use Rattle.tl_journal.proofs.Posted.{before_stood}
 use Rattle.tl_journal.proofs.Present.{ReadsFor}
 use Rattle.tl_journal.proofs.Shards.{asks_at}
 use Rattle.tl_journal.proofs.Sizes.{asks_fit}
+use Rattle.tl_journal.proofs.Stated.{StatementOn, all_stated}
 use Rattle.tl_journal.proofs.Store.{LogIs}
 use Rattle.tl_journal.proofs.StoreLogs.{cell_in}
 use Rattle.tl_journal.proofs.Stood.{Stood}
@@ -71,9 +72,10 @@ log_own tid c None h = tt
 log_own tid c (Some x) h = h.own
 
 statements_fit : (script : Script) (settings : Settings) (n : ℕ) (session : Session) → IsBound script settings → session_of script n ≡ Some session
-    → AllByRecursion (StatementFits script.catalog) session.statements
+    → AllByRecursion (StatementOn script.catalog) session.statements
 statements_fit script settings n session bound e =
-    found (λ (s : Session). AllByRecursion (StatementFits script.catalog) s.statements) (λ (s : Session). s.node == n) script.sessions session bound.statements e
+    all_stated script.catalog session.statements bound.tables
+    (found (λ (s : Session). AllByRecursion (StatementFits script.catalog) s.statements) (λ (s : Session). s.node == n) script.sessions session bound.statements e)
 
 -- what is heard of a reply that may be, and is sound, is what it says
 both_pass : (catalog : Catalog) (ask : Ask) (told : Reply) → may_reply ask told ≡ true → is_sound catalog ask (heard ask told) ≡ true

@@ -20,11 +20,11 @@ use Rattle.tl_algebra.specs.declared.query.Output.TheVariants as output
 use Rattle.tl_write.specs.declared.write.Write.{Write}
 use Rattle.tl_write.specs.Own.{key_cmp, put_write}
 use Rattle.tl_isolation.specs.Kinds.{condition_fits, every_kind, has_column, is_value, same_kind, side_gives}
-use Rattle.tl_isolation.specs.Queries.{output_fits}
+use Rattle.tl_isolation.specs.Queries.{SuitsQuery, output_fits}
 use Rattle.tl_isolation.specs.Tables as tables
 use Rattle.tl_isolation.specs.Tables.{FitsTable, OpensTable, opening_writes, sets_its_kind}
 use Rattle.tl_isolation.proofs.Computed.{alike_test, kind_of_literal, kind_of_place}
-use Rattle.tl_journal.specs.Binding.{IsKeyed, QueryFits, StatementFits, TableFits, WriteFits}
+use Rattle.tl_journal.specs.Binding.{StatementFits, TableFits, WriteFits}
 use Rattle.tl_script.specs.declared.statement.Statement.{Statement}
 use Rattle.tl_script.specs.declared.statement.Statement.TheVariants.{Begin, Commit, Rollback, Recover, Insert, SelectAll, Select, Update, Delete}
 use Rattle.tl_script.specs.Build.{bound_of, key_is, opening_row, query_of, row_of, set_other, table_of}
@@ -35,11 +35,16 @@ use Rattle.tl_script.proofs.Ranges.{IsInRange}
 abbrev pub catalog_with : Names → Catalog
 catalog_with names = record { tables = table_of names ∷ [] }
 
-keyed : (names : Names) → IsKeyed (table_of names)
-keyed names = record { columns = (omega arith, tt); some = refl; not_null = (refl, tt) }
-
-table_fits : (names : Names) → TableFits (table_of names)
-table_fits names = record { columns = omega arith; key = omega arith }
+pub table_fits : (names : Names) → TableFits (table_of names)
+table_fits names =
+    record {
+      keyed = record { columns = (omega arith, tt); some = refl; not_null = (refl, tt) };
+      once = (refl, tt);
+      key = omega arith;
+      columns = omega arith;
+      indexes = tt;
+      few = omega arith;
+    }
 
 fits_table : (names : Names) (key other : ℤ) → FitsSigned w64 key → FitsSigned w64 other → FitsTable (table_of names) (row_of key other)
 fits_table names key other k o = record { width = refl; values = (k, (o, tt)); kinds = refl }
@@ -67,20 +72,20 @@ place_fits names at e =
     ap (λ (g : Kind → Bool). list_any g every_kind) (kind_of_place (table_of names).columns at)
     ∙ ap (λ (b : Bool). b || list_any (λ k. has_column (same_kind k) (table_of names).columns at) (kind.Text ∷ kind.Bool ∷ [])) e
 
-query_fits : (names : Names) (filter : Option Condition) → condition_fits (table_of names).columns filter ≡ true → QueryFits (catalog_with names) (query_of filter)
+query_fits : (names : Names) (filter : Option Condition) → condition_fits (table_of names).columns filter ≡ true → SuitsQuery (catalog_with names) (query_of filter)
 query_fits names filter e =
     record {
-      suits = record {
-        some = omega arith;
-        few = omega arith;
-        tables = (omega arith, tt);
-        ons = refl;
-        passes = e;
-        group = refl;
-        outputs = λ i. place_fits names 0 refl i && (place_fits names 1 refl i && true);
-        sort = refl;
-      };
-      keyed = (keyed names, tt);
+      some = omega arith;
+      few = omega arith;
+      tables = (omega arith, tt);
+      starts = refl;
+      ons = refl;
+      passes = e;
+      group = refl;
+      prints = omega arith;
+      outputs = λ i. place_fits names 0 refl i && (place_fits names 1 refl i && true);
+      sort = refl;
+      grouped = λ makes. absurd cc;
     }
 
 -- what a line's statement is bound to fits the table
@@ -90,13 +95,13 @@ statement_fits names Commit r = tt
 statement_fits names Rollback r = tt
 statement_fits names (Recover node) r = (r.from, r.to)
 statement_fits names (Insert key other) r =
-    record { suits = record { table = omega arith; change = (fits_table names key other r.0 r.1, tt) }; once = tt; keyed = keyed names; table = table_fits names }
+    record { suits = record { table = omega arith; change = (fits_table names key other r.0 r.1, tt) }; written = omega arith }
 statement_fits names SelectAll r = query_fits names None refl
 statement_fits names (Select key) r = query_fits names (Some (key_is key)) (key_alike names key r)
 statement_fits names (Update other key) r =
-    record { suits = record { table = omega arith; change = (refl, set_fits names other r.0, key_alike names key r.1) }; once = (refl, tt); keyed = keyed names; table = table_fits names }
+    record { suits = record { table = omega arith; change = (refl, set_fits names other r.0, key_alike names key r.1) }; written = (omega arith, (refl, tt)) }
 statement_fits names (Delete key) r =
-    record { suits = record { table = omega arith; change = key_alike names key r }; once = tt; keyed = keyed names; table = table_fits names }
+    record { suits = record { table = omega arith; change = key_alike names key r }; written = tt }
 
 -- a row of two numbers that fit 64 bits
 pub record IsOpening (o : OpeningRow) : Type 0 where
@@ -134,16 +139,16 @@ pub rows_fit : (names : Names) (rows : List OpeningRow) → AreOpening rows → 
 rows_fit names [] h = tt
 rows_fit names (o ∷ rows) h = (row_fits names o h.0, rows_fit names rows h.1)
 
-put_by : (c : Ordering) (w x : Write) (xs put : List Write) → WriteFits w → WriteFits x → AllByRecursion WriteFits xs → AllByRecursion WriteFits put
-    → AllByRecursion WriteFits (match_ordering c (w ∷ x ∷ xs) (w ∷ xs) (x ∷ put))
-put_by Less w x xs put f g h i = (f, (g, h))
-put_by Equal w x xs put f g h i = (f, h)
-put_by Greater w x xs put f g h i = (g, i)
+put_by : (P : Write → Type 0) (c : Ordering) (w x : Write) (xs put : List Write) → P w → P x → AllByRecursion P xs → AllByRecursion P put
+    → AllByRecursion P (match_ordering c (w ∷ x ∷ xs) (w ∷ xs) (x ∷ put))
+put_by P Less w x xs put f g h i = (f, (g, h))
+put_by P Equal w x xs put f g h i = (f, h)
+put_by P Greater w x xs put f g h i = (g, i)
 
-put_fits : (w : Write) (ws : List Write) → WriteFits w → AllByRecursion WriteFits ws → AllByRecursion WriteFits (put_write w ws)
-put_fits w [] f h = (f, tt)
-put_fits w (x ∷ xs) f h = put_by (key_cmp w.key x.key) w x xs (put_write w xs) f h.0 h.1 (put_fits w xs f h.1)
+pub put_all : (P : Write → Type 0) (w : Write) (ws : List Write) → P w → AllByRecursion P ws → AllByRecursion P (put_write w ws)
+put_all P w [] f h = (f, tt)
+put_all P w (x ∷ xs) f h = put_by P (key_cmp w.key x.key) w x xs (put_write w xs) f h.0 h.1 (put_all P w xs f h.1)
 
 pub writes_fit : (names : Names) (rows : List OpeningRow) → AreOpening rows → AllByRecursion WriteFits (opening_writes (catalog_with names) rows)
 writes_fit names [] h = tt
-writes_fit names (o ∷ rows) h = put_fits (write_of names o) (opening_writes (catalog_with names) rows) (write_fits names o h.0) (writes_fit names rows h.1)
+writes_fit names (o ∷ rows) h = put_all WriteFits (write_of names o) (opening_writes (catalog_with names) rows) (write_fits names o h.0) (writes_fit names rows h.1)

@@ -9,8 +9,12 @@ use Rattle.tl_base.specs.declared.place.Settings.{Settings}
 use Rattle.tl_isolation.specs.declared.bound.Bound.{Bound}
 use Rattle.tl_isolation.specs.declared.script.Script.{Script}
 use Rattle.tl_isolation.specs.declared.script.Session.{Session}
+use Rattle.tl_isolation.specs.declared.script.TurnItem.{TurnItem}
+use Rattle.tl_isolation.specs.declared.script.TurnItem.TheVariants.{One, Until}
 use Rattle.tl_isolation.specs.declared.script.Vanish.{Vanish}
-use Rattle.tl_journal.specs.Binding.{EachOnce, IsBound, StatementFits}
+use Rattle.tl_isolation.proofs.Lookups.{weaker}
+use Rattle.tl_journal.specs.Binding.{EachOnce, IsBound, ItemFits, StatementFits, VanishFits, has_session}
+use Rattle.tl_journal.specs.Schedule.{node_of}
 use Rattle.tl_script.specs.declared.fault.ScriptError.{ScriptError}
 use Rattle.tl_script.specs.declared.statement.Statement.{Statement}
 use Rattle.tl_script.specs.declared.statement.Statement.TheVariants.{Begin, Commit, Rollback, Recover, Insert, SelectAll, Select, Update, Delete}
@@ -19,11 +23,12 @@ use Rattle.tl_script.specs.Directive.{item_in, vanish_in}
 use Rattle.tl_script.specs.Fields.{fields_of}
 use Rattle.tl_script.specs.Lines.{lines_of}
 use Rattle.tl_script.specs.Node.{node_in}
-use Rattle.tl_script.specs.Parts.{Parts, has_key, has_schedule, has_session, has_vanish, is_none, no_parts, placed, said_last, script_with, take_by, take_item, take_items, take_line, take_node, take_opening, take_statement, take_turns, take_vanish, unless, with_item, with_node, with_vanish}
+use Rattle.tl_script.specs.Parts.{Parts, has_key, has_schedule, has_vanish, is_none, no_parts, placed, said_last, script_with, take_by, take_item, take_items, take_line, take_node, take_opening, take_statement, take_turns, take_vanish, unless, with_item, with_node, with_vanish}
 use Rattle.tl_script.specs.Script.{Fault, Gives, ◌>>=◌, or_not_built, parts_in, script_in, script_of}
 use Rattle.tl_script.specs.Statement.{Names, statement_in, table_in}
-use Rattle.tl_script.proofs.Bound.{AreOpening, IsOpening, catalog_with, rows_fit, statement_fits, writes_fit}
-use Rattle.tl_script.proofs.Ranges.{IsInRange, in_range, within_range}
+use Rattle.tl_script.proofs.Bound.{AreOpening, IsOpening, catalog_with, rows_fit, statement_fits, table_fits, writes_fit}
+use Rattle.tl_script.proofs.Openings.{KeysOnce, distinct_rows, once_more}
+use Rattle.tl_script.proofs.Ranges.{IsInRange, IsInSchedule, in_range, item_range, vanish_range, within_range}
 
 abbrev pub IsNode : Session → Type 0
 IsNode s = (1 ≤ s.node) × (s.node ≤ 16)
@@ -39,6 +44,9 @@ pub record PartsFit (names : Names) (most : ℕ) (parts : Parts) : Type 0 where
   pub sessions : EachOnce (λ (s : Session). s.node) parts.sessions
   pub vanishes : EachOnce (λ (v : Vanish). v.node) parts.vanishes
   pub statements : AllByRecursion (SaysFitting names) parts.sessions
+  pub keys : KeysOnce names parts.rows
+  pub turns : AllByRecursion (ItemFits parts.sessions) parts.turns
+  pub counts : AllByRecursion (VanishFits parts.sessions) parts.vanishes
 
 -- where there are such parts
 abbrev pub Stays : Names → ℕ → Option Parts → Type 0
@@ -48,10 +56,6 @@ Stays names most (Some parts) = PartsFit names most parts
 all_append : {X : Type 0} (P : X → Type 0) (xs ys : List X) → AllByRecursion P xs → AllByRecursion P ys → AllByRecursion P (xs ++ ys)
 all_append P [] ys h i = i
 all_append P (x ∷ xs) ys h i = (h.0, all_append P xs ys h.1 i)
-
-unless_stays : (names : Names) (most : ℕ) (amiss : Bool) (parts : Parts) → PartsFit names most parts → Stays names most (unless amiss parts)
-unless_stays names most true parts f = tt
-unless_stays names most false parts f = f
 
 -- there is nothing amiss where they stand
 unless_known : (names : Names) (most : ℕ) (amiss : Bool) (parts : Parts) → (amiss ≡ false → PartsFit names most parts) → Stays names most (unless amiss parts)
@@ -90,7 +94,54 @@ then_stays names most f None s h = tt
 then_stays names most f (Some p) s h = h p s
 
 wider : (names : Names) (most : ℕ) (parts : Parts) → PartsFit names most parts → PartsFit names (most + 1) parts
-wider names most parts f = record { rows = f.rows; few = omega (arith, f.few); nodes = f.nodes; sessions = f.sessions; vanishes = f.vanishes; statements = f.statements }
+wider names most parts f = record {
+  rows = f.rows;
+  few = omega (arith, f.few);
+  nodes = f.nodes;
+  sessions = f.sessions;
+  vanishes = f.vanishes;
+  statements = f.statements;
+  keys = f.keys;
+  turns = f.turns;
+  counts = f.counts;
+}
+
+-- each node that had a session has one
+abbrev Keeps : List Session → List Session → Type 0
+Keeps old new = (n : ℕ) → has_session old n ≡ true → has_session new n ≡ true
+
+item_keeps : (old new : List Session) → Keeps old new → (item : TurnItem) → ItemFits old item → ItemFits new item
+item_keeps old new k (One node times) h = (k node h.0, h.1, h.2)
+item_keeps old new k (Until node statement) h = (k node h.0, h.1, h.2)
+
+turns_keep : (old new : List Session) → Keeps old new → (items : List TurnItem) → AllByRecursion (ItemFits old) items → AllByRecursion (ItemFits new) items
+turns_keep old new k items h = weaker (ItemFits old) (ItemFits new) (item_keeps old new k) items h
+
+counts_keep : (old new : List Session) → Keeps old new → (vs : List Vanish) → AllByRecursion (VanishFits old) vs → AllByRecursion (VanishFits new) vs
+counts_keep old new k vs h =
+    weaker (VanishFits old) (VanishFits new) (λ v f. record { session = k v.node f.session; least = f.least; most = f.most }) vs h
+
+any_push : {A : Type 0} (p : A → Bool) (xs : List A) (y : A) → list_any p xs ≡ true → list_any p (xs ++ y ∷ []) ≡ true
+any_push p [] y h = absurd (cc)
+any_push p (x ∷ xs) y h =
+    elim (p x) as (λ b. (b || list_any p xs) ≡ true → (b || list_any p (xs ++ y ∷ [])) ≡ true) [
+      | true ↦ λ i. refl
+      | false ↦ λ i. any_push p xs y i
+    ] h
+
+more_keeps : (old : List Session) (s : Session) → Keeps old (old ++ s ∷ [])
+more_keeps old s n h = any_push (λ (s : Session). s.node == n) old s h
+
+said_keeps : (b : Bound) (old : List Session) → Keeps old (said_last b old)
+said_keeps b old n h = said_any (λ m. m == n) b old ∙ h
+
+not_false : (b : Bool) → not b ≡ false → b ≡ true
+not_false true h = refl
+not_false false h = absurd (cc)
+
+item_fits : (sessions : List Session) (item : TurnItem) → IsInSchedule item → has_session sessions (node_of item) ≡ true → ItemFits sessions item
+item_fits sessions (One node times) r h = (h, r.from, r.to)
+item_fits sessions (Until node statement) r h = (h, r.from, r.to)
 
 wider_stays : (names : Names) (most : ℕ) (o : Option Parts) → Stays names most o → Stays names (most + 1) o
 wider_stays names most None s = tt
@@ -99,14 +150,17 @@ wider_stays names most (Some parts) s = wider names most parts s
 node_stays : (names : Names) (most : ℕ) (parts : Parts) (digits : List ℕ) (node : ℕ) → PartsFit names most parts → node_in digits ≡ Some node → Stays names most (with_node parts node)
 node_stays names most parts digits node f e =
     let range = within_range 1 16 digits node e in
-    unless_known names most (has_schedule parts || has_session node parts) _ (λ new. record {
+    unless_known names most (has_schedule parts || has_session parts.sessions node) _ (λ new. record {
       rows = f.rows;
       few = f.few;
       nodes = all_append IsNode parts.sessions _ f.nodes ((range.from, range.to), tt);
       sessions = once_push (λ (s : Session). s.node) parts.sessions (record { node = node; statements = [] })
-          (or_parts (has_schedule parts) (has_session node parts) new).1 f.sessions;
+          (or_parts (has_schedule parts) (has_session parts.sessions node) new).1 f.sessions;
       vanishes = f.vanishes;
       statements = all_append (SaysFitting names) parts.sessions _ f.statements (tt, tt);
+      keys = f.keys;
+      turns = turns_keep parts.sessions _ (more_keeps parts.sessions (record { node = node; statements = [] })) parts.turns f.turns;
+      counts = counts_keep parts.sessions _ (more_keeps parts.sessions (record { node = node; statements = [] })) parts.vanishes f.counts;
     })
 
 take_node_stays : (names : Names) (most : ℕ) (fields : List (List ℕ)) (parts : Parts) → PartsFit names most parts → Stays names most (take_node fields parts)
@@ -116,7 +170,18 @@ take_node_stays names most (digits ∷ other ∷ fields) parts f = tt
 
 item_stays : (names : Names) (most : ℕ) (field : List ℕ) (parts : Parts) → PartsFit names most parts → Stays names most (take_item field parts)
 item_stays names most field parts f =
-    found_stays names most (with_item parts) (item_in field) (λ item e. unless_stays names most _ _ (record { rows = f.rows; few = f.few; nodes = f.nodes; sessions = f.sessions; vanishes = f.vanishes; statements = f.statements }))
+    found_stays names most (with_item parts) (item_in field) (λ item e. unless_known names most _ _ (λ known. record {
+      rows = f.rows;
+      few = f.few;
+      nodes = f.nodes;
+      sessions = f.sessions;
+      vanishes = f.vanishes;
+      statements = f.statements;
+      keys = f.keys;
+      turns = all_append (ItemFits parts.sessions) parts.turns (item ∷ []) f.turns
+          (item_fits parts.sessions item (item_range field item e) (not_false (has_session parts.sessions (node_of item)) known), tt);
+      counts = f.counts;
+    }))
 
 items_stay : (names : Names) (most : ℕ) (fields : List (List ℕ)) (parts : Parts) → PartsFit names most parts → Stays names most (take_items fields parts)
 items_stay names most [] parts f = f
@@ -134,8 +199,15 @@ vanish_stays names most fields parts f =
       few = f.few;
       nodes = f.nodes;
       sessions = f.sessions;
-      vanishes = once_push (λ (v : Vanish). v.node) parts.vanishes v (or_parts (not (has_session v.node parts)) (has_vanish v.node parts) new).1 f.vanishes;
+      vanishes = once_push (λ (v : Vanish). v.node) parts.vanishes v (or_parts (not (has_session parts.sessions v.node)) (has_vanish v.node parts) new).1 f.vanishes;
       statements = f.statements;
+      keys = f.keys;
+      turns = f.turns;
+      counts =
+          let range = vanish_range fields v e in
+          let known = not_false (has_session parts.sessions v.node) (or_parts (not (has_session parts.sessions v.node)) (has_vanish v.node parts) new).0 in
+          let fits : VanishFits parts.sessions v = record { session = known; least = range.from; most = range.to } in
+          all_append (VanishFits parts.sessions) parts.vanishes (v ∷ []) f.counts (fits, tt);
     }))
 
 opening_stays : (names : Names) (most : ℕ) (s : Statement) (parts : Parts) → PartsFit names most parts → IsInRange s → Stays names (most + 1) (take_opening s parts)
@@ -145,13 +217,16 @@ opening_stays names most Rollback parts f r = tt
 opening_stays names most (Recover node) parts f r = tt
 opening_stays names most (Insert key other) parts f r =
     let opens : IsOpening (opening_row key other) = record { key = key; other = other; is = refl; key_fits = r.0; other_fits = r.1 } in
-    unless_stays names (most + 1) (has_key key parts.rows) _ (record {
+    unless_known names (most + 1) (has_key key parts.rows) _ (λ new. record {
       rows = all_append IsOpening parts.rows _ f.rows (opens, tt);
       few = omega (arith, f.few, length-append parts.rows (opening_row key other ∷ []));
       nodes = f.nodes;
       sessions = f.sessions;
       vanishes = f.vanishes;
       statements = f.statements;
+      keys = once_more names parts.rows key other f.rows r.0 new f.keys;
+      turns = f.turns;
+      counts = f.counts;
     })
 opening_stays names most SelectAll parts f r = tt
 opening_stays names most (Select key) parts f r = tt
@@ -179,6 +254,9 @@ placed_by false names most s parts f r = wider names most _ (record {
   sessions = said_once (bound_of s) parts.sessions f.sessions;
   vanishes = f.vanishes;
   statements = said_statements names (bound_of s) parts.sessions (statement_fits names s r) f.statements;
+  keys = f.keys;
+  turns = turns_keep parts.sessions _ (said_keeps (bound_of s) parts.sessions) parts.turns f.turns;
+  counts = counts_keep parts.sessions _ (said_keeps (bound_of s) parts.sessions) parts.vanishes f.counts;
 })
 
 statement_by : (late : Bool) (names : Names) (most : ℕ) (s : Statement) (parts : Parts) → PartsFit names most parts → IsInRange s
@@ -227,7 +305,17 @@ lines_fit names number most (line ∷ lines) parts read f e =
     let next = ok_bind (or_not_built number (take_line names line parts)) _ read e in
     let stays : PartsFit names (most + 1) next.0 = subst (Stays names (most + 1)) (ok_built number (take_line names line parts) next.0 next.1) (line_stays names most line parts f) in
     let whole : PartsFit names (most + 1 + length lines) read = lines_fit names (number + 1) (most + 1) lines next.0 read stays next.2 in
-    record { rows = whole.rows; few = omega (arith, whole.few); nodes = whole.nodes; sessions = whole.sessions; vanishes = whole.vanishes; statements = whole.statements }
+    record {
+      rows = whole.rows;
+      few = omega (arith, whole.few);
+      nodes = whole.nodes;
+      sessions = whole.sessions;
+      vanishes = whole.vanishes;
+      statements = whole.statements;
+      keys = whole.keys;
+      turns = whole.turns;
+      counts = whole.counts;
+    }
 
 -- a script of these lines is bound, and has fewer opening rows than lines
 pub record IsRead (lines : List (List ℕ)) (script : Script) : Type 0 where
@@ -235,7 +323,7 @@ pub record IsRead (lines : List (List ℕ)) (script : Script) : Type 0 where
   pub few : length script.rows ≤ length lines
 
 none_fit : (names : Names) → PartsFit names 0 no_parts
-none_fit names = record { rows = tt; few = omega arith; nodes = tt; sessions = tt; vanishes = tt; statements = tt }
+none_fit names = record { rows = tt; few = omega arith; nodes = tt; sessions = tt; vanishes = tt; statements = tt; keys = tt; turns = tt; counts = tt }
 
 script_read : (lines : List (List ℕ)) (script : Script) → script_in lines ≡ Ok script → IsRead lines script
 unfolding script_in
@@ -246,13 +334,18 @@ script_read (table ∷ lines) script e =
     let fit : PartsFit names.0 (0 + length lines) parts.0 = lines_fit names.0 2 0 lines no_parts parts.0 (none_fit names.0) parts.1 in
     subst (IsRead (table ∷ lines)) (ok_inside (script_with names.0 parts.0) script parts.2) (record {
       bound = λ settings. record {
-        tables = omega arith;
+        some = omega arith;
+        few = omega arith;
+        tables = (table_fits names.0, tt);
         nodes = fit.nodes;
         sessions = fit.sessions;
-        vanishes = fit.vanishes;
         statements = fit.statements;
+        turns = fit.turns;
+        vanishes = fit.vanishes;
+        counts = fit.counts;
         opening = rows_fit names.0 parts.0.rows fit.rows;
         writes = writes_fit names.0 parts.0.rows fit.rows;
+        distinct = distinct_rows names.0 parts.0.rows fit.keys;
       };
       few = omega (arith, fit.few);
     })

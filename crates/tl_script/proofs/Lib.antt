@@ -6,6 +6,7 @@ pub mod Heads
 pub mod Items
 pub mod Kept
 pub mod Letters
+pub mod Openings
 pub mod Ranges
 pub mod Reading
 pub mod Sessions

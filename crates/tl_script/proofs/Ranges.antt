@@ -1,18 +1,22 @@
 -- The numbers of statements and directives are in their ranges.
-use Rattle.std.proofs.Common.{◌≡◌, ℕ, ◌^◌, ◌<◌, ◌≤◌, ◌&&◌, Bool, true, false, not, cond, List, Option, Some, None, length, refl, subst, arith}
+use Rattle.std.proofs.Common.{◌≡◌, ℕ, ◌^◌, ◌<◌, ◌≤◌, ◌&&◌, Bool, true, false, not, cond, List, [], ◌∷◌, Option, Some, None, length, refl, ap, subst, arith}
 use Rattle.std.proofs.lemmas.Bool.Decides.{nat_tests}
 use Rattle.std.proofs.lemmas.Int.{ints}
 use Rattle.std.proofs.lemmas.Option.{cond_some}
-use Rattle.std.specs.Prelude.{ℤ, pos, neg_ℤ, nat_lt, nat_le, codes, nat_eq}
+use Rattle.std.specs.Prelude.{ℤ, ◌==◌, pos, neg_ℤ, nat_lt, nat_le, codes, drop, nat_eq, if◌then◌else◌}
 use Rattle.std.specs.Char.{is_ascii_digit}
 use Rattle.std.specs.Int.{w64}
 use Rattle.std.specs.Int.RustNames.{FitsSigned}
 use Rattle.std.specs.List.{list_all}
-use Rattle.std.specs.Option.{option_and_then, option_or}
+use Rattle.std.specs.Option.{option_and_then, option_map, option_or}
 use Rattle.std.specs.Str.{bytes_eq}
 use Rattle.std.specs.Str.Parse.{digits_value}
+use Rattle.tl_isolation.specs.declared.script.TurnItem.{TurnItem}
+use Rattle.tl_isolation.specs.declared.script.TurnItem.TheVariants.{One, Until}
+use Rattle.tl_isolation.specs.declared.script.Vanish.{Vanish}
 use Rattle.tl_script.specs.declared.statement.Statement.{Statement}
 use Rattle.tl_script.specs.declared.statement.Statement.TheVariants.{Begin, Commit, Rollback, Recover, Insert, SelectAll, Select, Update, Delete}
+use Rattle.tl_script.specs.Directive.{item_behind, item_in, kind_in, vanish_in}
 use Rattle.tl_script.specs.Lines.{after_text}
 use Rattle.tl_script.specs.Node.{node_in}
 use Rattle.tl_script.specs.Number.{digits_at, is_empty, magnitude_at, signed, number_behind, number_at, number_within}
@@ -178,3 +182,54 @@ in_range names line s e =
     (select names line s))
     (update names line s))
     (delete names line s) e
+
+-- ---- directives
+
+some_map : {A B : Type 0} (f : A → B) (o : Option A) (y : B) → option_map f o ≡ Some y → (x : A) × (o ≡ Some x) × (f x ≡ y)
+some_map f None y e = absurd (cc)
+some_map f (Some x) y e = (x, refl, cc)
+
+abbrev count_in : ℕ → Option Vanish → ℕ
+count_in n None = n
+count_in n (Some v) = v.count
+
+-- so many requests, or the statement of this number
+abbrev pub IsInSchedule : TurnItem → Type 0
+IsInSchedule (One node times) = IsFromTo 1 100000 times
+IsInSchedule (Until node statement) = IsFromTo 1 1000000 statement
+
+times_range : (node : ℕ) (digits : List ℕ) (item : TurnItem) → option_map (λ times. One node times) (number_within 1 100000 digits) ≡ Some item → IsInSchedule item
+times_range node digits item e =
+    let read = some_map (λ times. One node times) (number_within 1 100000 digits) item e in
+    subst IsInSchedule read.2 (within_range 1 100000 digits read.0 read.1)
+
+until_range : (node : ℕ) (digits : List ℕ) (item : TurnItem) → option_map (λ statement. Until node statement) (number_within 1 1000000 digits) ≡ Some item → IsInSchedule item
+until_range node digits item e =
+    let read = some_map (λ statement. Until node statement) (number_within 1 1000000 digits) item e in
+    subst IsInSchedule read.2 (within_range 1 1000000 digits read.0 read.1)
+
+sign_range : (star colon : Bool) (node : ℕ) (digits : List ℕ) (item : TurnItem)
+    → (if star then option_map (λ times. One node times) (number_within 1 100000 digits)
+    else if colon then option_map (λ statement. Until node statement) (number_within 1 1000000 digits) else None) ≡ Some item → IsInSchedule item
+sign_range true colon node digits item e = times_range node digits item e
+sign_range false true node digits item e = until_range node digits item e
+sign_range false false node digits item e = absurd (cc)
+
+behind_range : (node : ℕ) (rest : List ℕ) (item : TurnItem) → item_behind node rest ≡ Some item → IsInSchedule item
+behind_range node [] item e = let same : One node 1 ≡ item = cc in subst IsInSchedule same (record { from = omega arith; to = omega arith })
+behind_range node (b ∷ digits) item e = sign_range (b == 42) (b == 58) node digits item e
+
+pub item_range : (field : List ℕ) (item : TurnItem) → item_in field ≡ Some item → IsInSchedule item
+unfolding item_in
+item_range field item e = let node = some_bind _ (node_in (digits_at field)) item e in behind_range node.0 (drop (length (digits_at field)) field) item node.2
+
+pub vanish_range : (fields : List (List ℕ)) (v : Vanish) → vanish_in fields ≡ Some v → IsFromTo 1 100000 v.count
+unfolding vanish_in
+vanish_range [] v e = absurd (cc)
+vanish_range (node ∷ []) v e = absurd (cc)
+vanish_range (node ∷ count ∷ words) v e =
+    let a = some_bind _ (node_in node) v e in
+    let b = some_bind _ (number_within 1 100000 count) v a.2 in
+    let c = some_bind _ (kind_in words) v b.2 in
+    let same : b.0 ≡ v.count = ap (λ (o : Option Vanish). count_in b.0 o) c.2 in
+    subst (IsFromTo 1 100000) same (within_range 1 100000 count b.0 b.1)
