@@ -1,35 +1,31 @@
 -- The least of the marks is one of them, and it begins them all.
-use Rattle.std.proofs.Common.{◌≡◌, ◌⊎◌, inl, inr, ℕ, zero, suc, ◌<◌, ◌≤◌, Bool, true, false, cond, true≢false, List, [], ◌∷◌, Some, fold, length, slice_get, refl, sym, ap, subst, ◌∙◌, arith}
+use Rattle.std.proofs.Common.{◌≡◌, ◌⊎◌, inl, inr, ℕ, zero, suc, ◌≤◌, Bool, true, false, cond, true≢false, List, [], ◌∷◌, Some, fold, length, slice_get, refl, sym, ap, subst, ◌∙◌, arith}
 use Rattle.std.specs.List.{AllByRecursion}
 use Rattle.tl_codec.specs.Fields.{some_is}
 use Rattle.tl_descriptor.specs.Tids.{IsCanonical, TidSet, begins}
 use Rattle.tl_manager.specs.Floor.{IsChain}
-use Rattle.tl_collect.specs.Floors.{least_of, lower}
+use Rattle.tl_collect.specs.Floors.{StandsIn, least_of, lower}
 
 -- what is needed of the order of sets
 pub record IsOrder : Type 0 where
   pub itself : (set : TidSet) → IsCanonical set → begins set set ≡ true
   pub onward : (a b c : TidSet) → IsCanonical a → IsCanonical b → IsCanonical c → begins a b ≡ true → begins b c ≡ true → begins a c ≡ true
 
--- the set stands among the marks
-abbrev Stands : List TidSet → TidSet → Type 0
-Stands marks set = (j : ℕ) × (j < length marks) × (slice_get marks j ≡ Some set)
-
 -- where a mark was taken or not
-taken : (t : Bool) (first mark least : TidSet) (marks : List TidSet) → (least ≡ cond t mark first) ⊎ Stands marks least → (least ≡ first) ⊎ Stands (mark ∷ marks) least
+taken : (t : Bool) (first mark least : TidSet) (marks : List TidSet) → (least ≡ cond t mark first) ⊎ StandsIn marks least → (least ≡ first) ⊎ StandsIn (mark ∷ marks) least
 taken true first mark least marks (inl e) = inr (zero, omega arith, ap Some (sym e))
 taken false first mark least marks (inl e) = inl e
 taken t first mark least marks (inr (j, within, e)) = inr (suc j, omega arith, e)
 
-stands_after : (first : TidSet) (marks : List TidSet) → (fold lower first marks ≡ first) ⊎ Stands marks (fold lower first marks)
+stands_after : (first : TidSet) (marks : List TidSet) → (fold lower first marks ≡ first) ⊎ StandsIn marks (fold lower first marks)
 stands_after first [] = inl refl
 stands_after first (mark ∷ marks) = taken (begins mark first) first mark (fold lower (lower first mark) marks) marks (stands_after (lower first mark) marks)
 
-first_or_after : (first least : TidSet) (marks : List TidSet) → (least ≡ first) ⊎ Stands marks least → Stands (first ∷ marks) least
+first_or_after : (first least : TidSet) (marks : List TidSet) → (least ≡ first) ⊎ StandsIn marks least → StandsIn (first ∷ marks) least
 first_or_after first least marks (inl e) = (zero, omega arith, ap Some (sym e))
 first_or_after first least marks (inr (j, within, e)) = (suc j, omega arith, e)
 
-pub is_one : (marks : List TidSet) → 1 ≤ length marks → Stands marks (least_of marks)
+pub is_one : (marks : List TidSet) → 1 ≤ length marks → StandsIn marks (least_of marks)
 is_one [] some = absurd (omega arith)
 is_one (first ∷ marks) some = first_or_after first (fold lower first marks) marks (stands_after first marks)
 
@@ -57,6 +53,10 @@ begins_marks o first (mark ∷ marks) h k =
     let least : TidSet = fold lower next marks in
     (rest.0, (o.onward least next first rest.0 fits h.0 rest.1.0 two.0, (o.onward least next mark rest.0 fits h.1.0 rest.1.0 two.1, rest.1.1)))
 
+pub begins_each : IsOrder → (marks : List TidSet) → AllByRecursion IsCanonical marks → IsChain marks → AllByRecursion (λ mark. begins (least_of marks) mark ≡ true) marks
+begins_each o [] h k = tt
+begins_each o (first ∷ marks) h k = (begins_marks o first marks h k).1
+
 at : (P : TidSet → Type 0) (marks : List TidSet) (j : ℕ) (mark : TidSet) → AllByRecursion P marks → slice_get marks j ≡ Some mark → P mark
 at P [] j mark h e = absurd cc
 at P (first ∷ marks) zero mark h e = subst P (some_is first mark e) h.0
@@ -64,5 +64,4 @@ at P (first ∷ marks) (suc j) mark h e = at P marks j mark h.1 e
 
 pub begins_all : IsOrder → (marks : List TidSet) (j : ℕ) (mark : TidSet) → AllByRecursion IsCanonical marks → IsChain marks
     → slice_get marks j ≡ Some mark → begins (least_of marks) mark ≡ true
-begins_all o [] j mark h k e = absurd cc
-begins_all o (first ∷ marks) j mark h k e = at (λ set. begins (fold lower first marks) set ≡ true) (first ∷ marks) j mark (begins_marks o first marks h k).1 e
+begins_all o marks j mark h k e = at (λ set. begins (least_of marks) set ≡ true) marks j mark (begins_each o marks h k) e

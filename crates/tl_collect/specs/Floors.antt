@@ -1,5 +1,5 @@
 -- Of low-water marks the least.
-use Rattle.std.specs.Prelude.{List, [], ◌∷◌, fold, if◌then◌else◌}
+use Rattle.std.specs.Prelude.{◌≡◌, ◌<◌, ℕ, List, [], ◌∷◌, Some, fold, if◌then◌else◌, length, slice_get}
 use Rattle.tl_descriptor.specs.Tids.{TidSet, begins}
 use Rattle.tl_manager.specs.State.{opening_copy}
 
@@ -11,3 +11,7 @@ lower least mark = if begins mark least then mark else least
 abbrev pub least_of : List TidSet → TidSet
 least_of [] = opening_copy
 least_of (mark ∷ marks) = fold lower mark marks
+
+-- the set stands among the marks
+abbrev pub StandsIn : List TidSet → TidSet → Type 0
+StandsIn marks set = (j : ℕ) × (j < length marks) × (slice_get marks j ≡ Some set)

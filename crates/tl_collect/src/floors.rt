@@ -1,13 +1,16 @@
 //! The low-water marks.
 
-ghost use Rattle.std.specs.Prelude.{◌≡◌, ◌≤◌, fold, replicate, slice_set, IfOk};
-ghost use Rattle.tl_collect.specs.Floors.{least_of, lower};
+ghost use Rattle.std.specs.Prelude.{◌≡◌, ◌≤◌, true, fold, length, replicate, slice_set, IfOk};
+ghost use Rattle.std.specs.List.{AllByRecursion};
+ghost use Rattle.tl_collect.specs.Floors.{StandsIn, least_of, lower};
+ghost use Rattle.tl_descriptor.specs.Tids.{IsCanonical, begins};
+ghost use Rattle.tl_manager.specs.Floor.{IsChain};
 ghost use Rattle.tl_manager.specs.State.{opening_copy};
 
 use std::alloc::Global;
 use std::marker::Model;
 use tl_base::{Items, NoMemory};
-use tl_descriptor::Descriptor;
+use tl_descriptor::{Descriptor, begins_is_an_order};
 
 /// The low-water marks that a node keeps, one for each manager.
 #[derive(Debug, Drop)]
@@ -75,7 +78,18 @@ impl Floors {
 
     /// Of the marks one that begins them all, where of any two one begins the other.
     pub fn least(&self) -> &Descriptor
-        ensures { result.now ≡ least_of self.now }
+        ensures exact { result.now ≡ least_of self.now }
+        ensures is_one { StandsIn self.now result.now }
+        ensures begins_all { AllByRecursion IsCanonical self.now → IsChain self.now → AllByRecursion (λ mark. begins result.now mark ≡ true) self.now }
+    {
+        begins_is_an_order();
+        self.lowest()
+    }
+
+    /// Each mark in turn, where it begins the least so far.
+    fn lowest(&self) -> &Descriptor
+        ensures exact { result.now ≡ least_of self.now }
+        ensures some { 1 ≤ length self.now }
     {
         let marks = self.marks.as_slice();
         least_of(&marks[0], &marks[1..])

@@ -2,7 +2,5 @@
 #![tactic(auto)]
 
 mod floors;
-mod law;
 
 pub use floors::Floors;
-pub use law::least_begins_all;

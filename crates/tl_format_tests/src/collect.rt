@@ -1,7 +1,7 @@
 use crate::fixtures::set_of;
 use std::test::Fail;
 use tl_base::Tid;
-use tl_collect::{Floors, least_begins_all};
+use tl_collect::Floors;
 
 #[test]
 fn the_manager_behind_holds_the_least(rt: HostRuntime) -> Result<(), Fail> {
@@ -13,7 +13,6 @@ fn the_manager_behind_holds_the_least(rt: HostRuntime) -> Result<(), Fail> {
         (2, &[], &[1, 2, 4]),
         (1, &[1, 2, 4, 3, 6], &[1, 2, 3, 4]),
     ];
-    least_begins_all();
     let alloc = rt.alloc();
     let mut floors = Floors::new(alloc, 2)?;
     assert!(rt; *floors.least() == set_of(alloc, &[])?);
