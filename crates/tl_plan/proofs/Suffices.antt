@@ -1,5 +1,5 @@
 -- What lies within the accesses of a statement suffices for its answer.
-use Rattle.std.proofs.Common.{◌≡◌, ℕ, zero, suc, ◌+◌, ◌<◌, Bool, true, false, cond, ◌&&◌, if◌then◌else◌, List, [], ◌∷◌, ◌++◌, Option, Some, None, Ordering, Less, Equal, Greater, length, map, filter, flat_map, refl, sym, ap, subst, ◌∙◌, append_assoc, append-nil, get_or-append-add, length-append, arith}
+use Rattle.std.proofs.Common.{◌≡◌, ℕ, zero, suc, ◌+◌, ◌<◌, Bool, true, false, cond, ◌&&◌, if◌then◌else◌, List, [], ◌∷◌, ◌++◌, Option, Some, None, Result, Ok, Err, Ordering, Less, Equal, Greater, length, map, filter, flat_map, refl, sym, ap, subst, ◌∙◌, append_assoc, append-nil, get_or-append-add, length-append, arith}
 use Rattle.std.proofs.lemmas.List.{get_or_append_left}
 use Rattle.std.proofs.lemmas.List.Elements.{filter-append}
 use Rattle.std.specs.Cmp.{tied_itself}
@@ -13,16 +13,26 @@ use Rattle.tl_values.specs.declared.value.Value.TheVariants as value
 use Rattle.tl_values.specs.Key.{AreValues, IsValue, key_bytes}
 use Rattle.tl_values.specs.Value.{passes, value_at, value_cmp}
 use Rattle.tl_values.proofs.ValueOrder.{value_exact}
+use Rattle.tl_schema.specs.declared.access.Access.{Access}
+use Rattle.tl_schema.specs.declared.catalog.Catalog.{Catalog}
 use Rattle.tl_schema.specs.declared.catalog.Table.{Table}
 use Rattle.tl_algebra.specs.declared.condition.Condition.{Condition}
 use Rattle.tl_algebra.specs.declared.edit.Edit.TheVariants.{Insert, Update, Delete}
+use Rattle.tl_algebra.specs.declared.fault.ValueFault.{ValueFault}
+use Rattle.tl_algebra.specs.declared.query.Query.{Query}
+use Rattle.tl_algebra.specs.Order.{ArePermuted}
 use Rattle.tl_algebra.specs.Select as select
-use Rattle.tl_algebra.specs.Select.{before, each, product, selected}
+use Rattle.tl_algebra.specs.Select.{Tells, before, each, lines_of, product, selected}
+use Rattle.tl_algebra.specs.Value.{Fails}
+use Rattle.tl_algebra.proofs.Reorders.{no_order}
+use Rattle.tl_isolation.specs.declared.bound.Bound.{Bound}
+use Rattle.tl_isolation.specs.declared.bound.Bound.TheVariants as bound
 use Rattle.tl_algebra.specs.Truth.{lets_through}
 use Rattle.tl_isolation.specs.Tables.{FitsTable}
 use Rattle.tl_write.proofs.Parts.{part_suffices}
 use Rattle.tl_plan.specs.Access.{ColumnTest, access_by, access_of, accesses_of, covers, equal_to, first_tests, is_equality, range_by, tests_of}
-use Rattle.tl_plan.specs.Law.{AreRead, ChangePartSuffices, ComparesValues, HasKey, PassingIsCovered, SelectPartSuffices, is_covered}
+use Rattle.tl_plan.specs.Law.{AreGiven, AreRead, ChangePartSuffices, ComparesValues, FinishesWhole, HasKey, PassingIsCovered, SelectPartSuffices, Suffice, is_covered}
+use Rattle.tl_plan.specs.Plan.{Finishes, tables_of}
 use Rattle.tl_plan.proofs.Bounds.{within}
 use Rattle.tl_plan.proofs.Tests.{Meets, tests_met}
 
@@ -208,3 +218,46 @@ change_part (Update number sets where_) table part whole own keyed fits sub h =
 change_part (Delete number where_) table part whole own keyed fits sub h =
     part_suffices (Delete number where_) table part whole own sub
     (λ key row m. h.1 key row m.has m.in_table (has_matching where_ table row keyed h.0 (fits key row m.has m.in_table) m.passes))
+
+-- ---- the rows that are read, in any order
+
+-- the same rows in the order of their tables
+pub record InOrder (tables : List Table) (accesses : List Access) (wholes givens : List (List (List Value))) : Type 0 where
+  pub reads : List (List (List Value))
+  pub are_read : AreRead tables accesses wholes reads
+  pub permuted : ArePermuted reads givens
+
+in_order : (tables : List Table) (accesses : List Access) (wholes givens : List (List (List Value))) → AreGiven tables accesses wholes givens → InOrder tables accesses wholes givens
+in_order [] [] [] [] h = record { reads = []; are_read = tt; permuted = tt }
+in_order [] [] [] (given ∷ givens) h = absurd h
+in_order [] [] (whole ∷ wholes) givens h = absurd h
+in_order [] (access ∷ accesses) wholes givens h = absurd h
+in_order (table ∷ tables) [] wholes givens h = absurd h
+in_order (table ∷ tables) (access ∷ accesses) [] givens h = absurd h
+in_order (table ∷ tables) (access ∷ accesses) (whole ∷ wholes) [] h = absurd h
+in_order (table ∷ tables) (access ∷ accesses) (whole ∷ wholes) (given ∷ givens) h =
+    let rest : InOrder tables accesses wholes givens = in_order tables accesses wholes givens h.1 in
+    record { reads = h.0.read ∷ rest.reads; are_read = (h.0.is_read, rest.are_read); permuted = (h.0.any_order, rest.permuted) }
+
+tells_same : (query : Query) (tables others : List (List (List Value))) (result : Result (List (List Value)) ValueFault) → selected query tables ≡ selected query others
+    → Tells query tables result → Tells query others result
+tells_same query tables others (Ok answer) e t = (t.0, ap (lines_of query) (sym e) ∙ t.1, t.2)
+tells_same query tables others (Err fault) e t = subst (λ (rows : List (List Value)). Fails fault (lines_of query rows)) e t
+
+whole_select : (query : Query) (accesses : List Access) (givens : List (List (List Value))) (result : Result (List (List Value)) ValueFault) → Tells query givens result
+    → (catalog : Catalog) (wholes : List (List (List Value))) → Suffice catalog query accesses wholes givens → Tells query wholes result
+whole_select query accesses givens result t catalog wholes s =
+    let o : InOrder (tables_of catalog query) accesses wholes givens = in_order (tables_of catalog query) accesses wholes givens s.given in
+    tells_same query o.reads wholes result
+    (select_part query (tables_of catalog query) wholes o.reads s.compares
+    (subst (λ (found : List Access). AreRead (tables_of catalog query) found wholes o.reads) s.planned o.are_read))
+    (no_order query o.reads givens result s.groups o.permuted t)
+
+pub finishes_whole : (statement : Bound) (accesses : List Access) (givens : List (List (List Value))) (result : Result (List (List Value)) ValueFault)
+    → Finishes statement givens result → FinishesWhole statement accesses givens result
+finishes_whole (bound.Select query) accesses givens result t = whole_select query accesses givens result t
+finishes_whole (bound.Change edit) accesses givens result t = tt
+finishes_whole bound.Begin accesses givens result t = tt
+finishes_whole bound.Commit accesses givens result t = tt
+finishes_whole bound.Rollback accesses givens result t = tt
+finishes_whole (bound.Recover node) accesses givens result t = tt

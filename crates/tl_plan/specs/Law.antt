@@ -1,23 +1,30 @@
 -- The rows within the accesses of a statement suffice for its answer.
-use Rattle.std.specs.Prelude.{◌≡◌, ◌<◌, ℕ, Bool, true, List, [], ◌∷◌, ◌++◌, Option, filter, length}
+use Rattle.std.specs.Prelude.{◌≡◌, ◌<◌, ℕ, Bool, true, List, [], ◌∷◌, ◌++◌, Option, Result, filter, length}
 use Rattle.std.specs.List.{AllByRecursion}
+use Rattle.std.specs.List.Sorted.{IsPermutation}
 use Rattle.tl_values.specs.declared.value.Value.{Value}
 use Rattle.tl_values.specs.Key.{IsValue, key_bytes}
 use Rattle.tl_schema.specs.declared.access.Access.{Access}
+use Rattle.tl_schema.specs.declared.catalog.Catalog.{Catalog}
 use Rattle.tl_schema.specs.declared.catalog.Table.{Table}
 use Rattle.tl_schema.specs.Record.{key_values, record_key}
 use Rattle.tl_algebra.specs.declared.condition.Condition.{Condition}
 use Rattle.tl_algebra.specs.declared.edit.Edit.{Edit}
 use Rattle.tl_algebra.specs.declared.edit.Edit.TheVariants.{Insert, Update, Delete}
 use Rattle.tl_algebra.specs.declared.query.Query.{Query}
-use Rattle.tl_algebra.specs.Select.{selected}
+use Rattle.tl_algebra.specs.declared.fault.ValueFault.{ValueFault}
+use Rattle.tl_algebra.specs.Order.{SuitsGroups}
+use Rattle.tl_algebra.specs.Select.{Tells, selected}
 use Rattle.tl_algebra.specs.Truth.{lets_through}
 use Rattle.tl_write.specs.declared.write.Write.{Write}
 use Rattle.tl_write.specs.Change.{change_of, number_of}
 use Rattle.tl_write.specs.Law.{Has, IsPart}
 use Rattle.tl_write.specs.Tables.{Tables, is_in}
+use Rattle.tl_isolation.specs.declared.bound.Bound.{Bound}
+use Rattle.tl_isolation.specs.declared.bound.Bound.TheVariants as bound
 use Rattle.tl_isolation.specs.Tables.{FitsTable}
 use Rattle.tl_plan.specs.Access.{ColumnTest, access_of, accesses_of, covers, tests_of}
+use Rattle.tl_plan.specs.Plan.{query_accesses, tables_of}
 
 -- the columns of the primary key are columns
 abbrev pub HasKey : Table → Type 0
@@ -53,6 +60,35 @@ AreRead tables accesses wholes reads = ⊥
 abbrev pub SelectPartSuffices : Type 0
 SelectPartSuffices = (query : Query) (tables : List Table) (wholes reads : List (List (List Value))) → ComparesValues query.filter
     → AreRead tables (accesses_of tables 0 query.filter) wholes reads → selected query reads ≡ selected query wholes
+
+-- ---- so the rows that are read may come in any order
+
+-- some rows of a table, each once and in any order, and those within the access among them
+pub record IsGiven (table : Table) (access : Access) (whole given : List (List Value)) : Type 0 where
+  pub read : List (List Value)
+  pub is_read : IsRead table access whole read
+  pub any_order : IsPermutation read given
+
+-- of each table of a FROM
+abbrev pub AreGiven : List Table → List Access → List (List (List Value)) → List (List (List Value)) → Type 0
+AreGiven [] [] [] [] = Unit {0}
+AreGiven (table ∷ tables) (access ∷ accesses) (whole ∷ wholes) (given ∷ givens) = IsGiven table access whole given × AreGiven tables accesses wholes givens
+AreGiven tables accesses wholes givens = ⊥
+
+-- the accesses are those of the query, and rows were read by them of whole tables
+pub record Suffice (catalog : Catalog) (query : Query) (accesses : List Access) (wholes givens : List (List (List Value))) : Type 0 where
+  pub planned : accesses ≡ query_accesses catalog query
+  pub compares : ComparesValues query.filter
+  pub groups : SuitsGroups query
+  pub given : AreGiven (tables_of catalog query) accesses wholes givens
+
+-- a SELECT tells of these rows what it tells of the whole tables
+abbrev pub FinishesWhole : Bound → List Access → List (List (List Value)) → Result (List (List Value)) ValueFault → Type 0
+FinishesWhole (bound.Select query) accesses givens result =
+    (catalog : Catalog) (wholes : List (List (List Value))) → Suffice catalog query accesses wholes givens → Tells query wholes result
+FinishesWhole statement accesses givens result = Unit {0}
+
+-- ---- a change
 
 -- the access of a change that has a WHERE
 abbrev pub ReadsAll : Edit → Table → Tables → Tables → Type 0

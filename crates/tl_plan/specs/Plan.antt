@@ -1,6 +1,6 @@
 -- The plan of a statement: which records it reads, in order, and what its SELECT tells of them.
-use Rattle.std.specs.Prelude.{◌≡◌, ℕ, Bool, not, ◌&&◌, nat_lt, List, [], ◌∷◌, map, filter, length, Result, Ok}
-use Rattle.std.specs.List.{list_any}
+use Rattle.std.specs.Prelude.{◌≡◌, ◌≤◌, ℕ, Bool, not, ◌&&◌, nat_lt, List, [], ◌∷◌, map, filter, length, Result, Ok}
+use Rattle.std.specs.List.{AllByRecursion, list_any}
 use Rattle.tl_values.specs.declared.value.Value.{Value}
 use Rattle.tl_values.specs.Key.{key_bytes}
 use Rattle.tl_values.specs.Value.{is_null}
@@ -15,10 +15,12 @@ use Rattle.tl_algebra.specs.declared.fault.ValueFault.{ValueFault}
 use Rattle.tl_algebra.specs.declared.query.Join.{Join}
 use Rattle.tl_algebra.specs.declared.query.Query.{Query}
 use Rattle.tl_algebra.specs.Select.{Tells}
+use Rattle.tl_write.specs.Change.{number_of}
 use Rattle.tl_isolation.specs.declared.bound.Bound.{Bound}
 use Rattle.tl_isolation.specs.declared.bound.Bound.TheVariants as bound
-use Rattle.tl_isolation.specs.Tables.{table_of}
+use Rattle.tl_isolation.specs.Tables.{HasTable, table_of}
 use Rattle.tl_plan.specs.Access.{access_of, accesses_of}
+use Rattle.tl_plan.specs.Steps.{width}
 
 -- the longest key that a record can have
 abbrev pub longest_key : ℕ
@@ -46,14 +48,28 @@ edit_accesses catalog (Delete number where_) = access_of (table_of catalog numbe
 abbrev pub numbers_of : Query → List ℕ
 numbers_of query = map (λ (join : Join). join.table) query.from
 
+abbrev pub tables_of : Catalog → Query → List Table
+tables_of catalog query = map (table_of catalog) (numbers_of query)
+
 abbrev pub query_accesses : Catalog → Query → List Access
-query_accesses catalog query = accesses_of (map (table_of catalog) (numbers_of query)) 0 query.filter
+query_accesses catalog query = accesses_of (tables_of catalog query) 0 query.filter
 
 -- what a statement reads, in order; those that aren't SELECT or a change read nothing
 abbrev pub accesses_in : Catalog → Bound → List Access
 accesses_in catalog (bound.Select query) = query_accesses catalog query
 accesses_in catalog (bound.Change edit) = edit_accesses catalog edit
 accesses_in catalog statement = []
+
+-- the tables of FROM are tables of the catalog, and a place counts their columns
+pub record NamesFrom (catalog : Catalog) (query : Query) : Type 0 where
+  pub tables : AllByRecursion (λ (join : Join). HasTable catalog join.table) query.from
+  pub places : width (tables_of catalog query) ≤ 256
+
+-- a statement names tables of the catalog alone, as each does that was bound to it
+abbrev pub NamesTables : Catalog → Bound → Type 0
+NamesTables catalog (bound.Select query) = NamesFrom catalog query
+NamesTables catalog (bound.Change edit) = HasTable catalog (number_of edit)
+NamesTables catalog statement = Unit {0}
 
 -- a SELECT tells what its query does of the rows of its tables, and the other statements have no rows
 abbrev pub Finishes : Bound → List (List (List Value)) → Result (List (List Value)) ValueFault → Type 0

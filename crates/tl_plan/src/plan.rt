@@ -1,7 +1,8 @@
 //! What a statement reads and tells.
 
 ghost use Rattle.std.specs.Prelude.{◌≡◌, IfOk};
-ghost use Rattle.tl_plan.specs.Plan.{Finishes, accesses_in};
+ghost use Rattle.tl_plan.specs.Law.{FinishesWhole};
+ghost use Rattle.tl_plan.specs.Plan.{Finishes, NamesTables, accesses_in};
 
 use crate::copy::copy_bound;
 use crate::planned::{edit_accesses, query_accesses};
@@ -24,9 +25,10 @@ pub struct Plan {
     pub accesses: Accesses,
 }
 
-/// The plan of the statement. `NoMemory` comes also where it names a table that the catalog doesn't have, or where the
-/// columns of a FROM are more than a place can count; no statement that was bound to the catalog does either.
+/// The plan of a statement that was bound to the catalog. `NoMemory` comes where the plan finds no room, and for no other
+/// reason.
 pub fn make_plan(alloc: Global, bound: &Bound, catalog: &Catalog) -> Result<Plan, NoMemory>
+    requires tables { NamesTables catalog.now bound.now }
     ensures statement { IfOk result (λ plan. plan.bound ≡ bound.now) }
     ensures accesses { IfOk result (λ plan. plan.accesses ≡ accesses_in catalog.now bound.now) }
 {
@@ -36,6 +38,7 @@ pub fn make_plan(alloc: Global, bound: &Bound, catalog: &Catalog) -> Result<Plan
 }
 
 fn accesses_in(alloc: Global, bound: &Bound, catalog: &Catalog) -> Result<Accesses, NoMemory>
+    requires { NamesTables catalog.now bound.now }
     ensures { IfOk result (λ accesses. accesses ≡ accesses_in catalog.now bound.now) }
 {
     match bound {
@@ -48,11 +51,20 @@ fn accesses_in(alloc: Global, bound: &Bound, catalog: &Catalog) -> Result<Access
 }
 
 /// The rows of the plan's SELECT, where `tables` has one list of rows for each FROM item, in the order of the items; no
-/// rows where the plan is that of another statement.
+/// rows where the plan is that of another statement. Rows of the tables that have those within the plan's accesses among
+/// them, each once and in any order, are as good as the whole tables.
+#[tactic(auto, using(crate::proofs::Suffices::finishes_whole))]
 pub fn finish(alloc: Global, plan: &Plan, tables: &[Rows]) -> Result<Rows, ValueFault>
-    ensures { Finishes plan.now.bound tables.now result }
+    ensures told { Finishes plan.now.bound tables.now result }
+    ensures whole { FinishesWhole plan.now.bound plan.now.accesses tables.now result }
 {
-    match &plan.bound {
+    rows_told(alloc, &plan.bound, tables)
+}
+
+fn rows_told(alloc: Global, bound: &Bound, tables: &[Rows]) -> Result<Rows, ValueFault>
+    ensures { Finishes bound.now tables.now result }
+{
+    match bound {
         Bound::Select { query } => rows_of(alloc, query, tables),
         Bound::Begin
         | Bound::Commit

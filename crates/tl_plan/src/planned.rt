@@ -5,9 +5,10 @@ ghost use Rattle.std.specs.List.{list_any};
 ghost use Rattle.tl_values.specs.Key.{key_bytes};
 ghost use Rattle.tl_values.specs.Value.{is_null};
 ghost use Rattle.tl_schema.specs.Record.{key_values};
-ghost use Rattle.tl_isolation.specs.Tables.{table_of};
+ghost use Rattle.tl_write.specs.Change.{number_of};
+ghost use Rattle.tl_isolation.specs.Tables.{HasTable, table_of};
 ghost use Rattle.tl_plan.specs.Access.{access_of};
-ghost use Rattle.tl_plan.specs.Plan.{edit_accesses, is_looked_up, points_of, query_accesses};
+ghost use Rattle.tl_plan.specs.Plan.{NamesFrom, edit_accesses, is_looked_up, points_of, query_accesses};
 
 use crate::access::access_of;
 use crate::plan::Accesses;
@@ -19,50 +20,40 @@ use tl_values::{Row, Value, encode_key};
 
 /// The accesses of the tables of FROM, one behind the other.
 pub fn query_accesses(alloc: Global, query: &Query, catalog: &Catalog) -> Result<Accesses, NoMemory>
+    requires { NamesFrom catalog.now query.now }
     ensures { IfOk result (λ accesses. accesses ≡ query_accesses catalog.now query.now) }
 {
     let mut accesses = Accesses::new(alloc);
     let mut offset: usize = 0;
     for join in query.from.as_slice() {
-        let table = table_in(catalog, join.table)?;
+        let table = table_in(catalog, join.table);
         accesses.push(access_of(alloc, table, offset, &query.filter)?)?;
-        offset = next_offset(offset, table)?;
+        offset += table.columns.len();
     }
     Ok(accesses)
 }
 
 /// The access of a change's table, or those of the rows to insert.
 pub fn edit_accesses(alloc: Global, edit: &Edit, catalog: &Catalog) -> Result<Accesses, NoMemory>
+    requires { HasTable catalog.now (number_of edit.now) }
     ensures { IfOk result (λ accesses. accesses ≡ edit_accesses catalog.now edit.now) }
 {
     match edit {
         Edit::Insert { table, rows } => {
-            points_of(alloc, table_in(catalog, *table)?, rows.as_slice())
+            points_of(alloc, table_in(catalog, *table), rows.as_slice())
         }
         Edit::Update { table, filter, .. } | Edit::Delete { table, filter } => {
-            single_access(alloc, table_in(catalog, *table)?, filter)
+            single_access(alloc, table_in(catalog, *table), filter)
         }
     }
 }
 
-// The table of this number. No statement that was bound to the catalog has a number without a table.
-fn table_in(catalog: &Catalog, number: u8) -> Result<&Table, NoMemory>
-    ensures { IfOk result (λ table. table.now ≡ table_of catalog.now number) }
+// The table of this number.
+fn table_in(catalog: &Catalog, number: u8) -> &Table
+    requires { HasTable catalog.now number }
+    ensures { result.now ≡ table_of catalog.now number }
 {
-    match catalog.tables.get(usize::from(number)) {
-        Some(table) => Ok(table),
-        None => Err(NoMemory),
-    }
-}
-
-// The place behind the columns of the table, which stand from this one on.
-fn next_offset(offset: usize, table: &Table) -> Result<usize, NoMemory>
-    ensures { IfOk result (λ next. next ≡ offset + length table.now.columns) }
-{
-    match offset.checked_add(table.columns.len()) {
-        Some(next) => Ok(next),
-        None => Err(NoMemory),
-    }
+    &catalog.tables.as_slice()[usize::from(number)]
 }
 
 // The one access of a change that has a WHERE.
