@@ -2,6 +2,7 @@ ghost use Rattle.std.specs.Prelude.{◌≡◌, [], ◌∷◌, Some, Result, IfOk
 ghost use Rattle.tl_isolation.specs.declared.bound.Bound.TheVariants as bound;
 ghost use Rattle.tl_isolation.specs.Meaning.{change_of, refusal_of, told_of};
 ghost use Rattle.tl_isolation.specs.Step.{own_after};
+ghost use Rattle.tl_isolation.specs.Tables.{HasTable};
 ghost use Rattle.tl_journal.specs.Takes.{own_said, view_changed};
 ghost use Rattle.tl_write.specs.Change.{number_of};
 ghost use Rattle.tl_write.specs.Fault.{Tells};
@@ -21,8 +22,6 @@ use tl_write::{Buffer, ChangeFault, Effect, change};
 /// What a change is answered, the count of its rows or why it is refused. The own writes are laid over the rows that
 /// were read, and those of the change are kept beside them; a refused change writes nothing. Without memory the own
 /// writes stay as they were.
-///
-/// A number that no table of the catalog has is answered as want of memory; no bound statement names one.
 pub fn answer_change(
     alloc: Global,
     catalog: &Catalog,
@@ -30,12 +29,13 @@ pub fn answer_change(
     rows: Rows,
     own: &mut Buffer,
 ) -> Result<Answer, NoMemory>
+    requires table { HasTable catalog.now (number_of edit.now) }
     ensures told { OwnSuits catalog.now edit.now own.old → IfOk result (λ told. told_of (change_of catalog.now edit.now (view_changed catalog.now edit.now own.old (rows ∷ [])) own.old) ≡ Some told) }
     ensures own { OwnSuits catalog.now edit.now own.old → OnOk result (own.new ≡ own_said catalog.now (bound.Change edit.now) own.old (rows ∷ [])) }
     ensures kept { OnErr result (own.new ≡ own.old) }
 {
     let number = number_of(edit);
-    let table = table_of(catalog, number)?;
+    let table = table_of(catalog, number);
     let view = own.lay(number, table, rows)?;
     let changed = change(alloc, edit, table, &view, own);
     keep(changed, own)

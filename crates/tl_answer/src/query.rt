@@ -1,7 +1,9 @@
 ghost use Rattle.std.specs.Prelude.{List, IfOk};
 ghost use Rattle.tl_values.specs.declared.value.Value.{Value};
 ghost use Rattle.tl_algebra.specs.Select.{Tells};
+ghost use Rattle.std.specs.List.{AllByRecursion};
 ghost use Rattle.tl_isolation.specs.Meaning.{QueryAnswers};
+ghost use Rattle.tl_isolation.specs.Tables.{HasTable};
 ghost use Rattle.tl_plan.specs.Plan.{numbers_of};
 ghost use Rattle.tl_journal.specs.Takes.{tables_seen};
 
@@ -16,8 +18,6 @@ use tl_write::Buffer;
 
 /// What a SELECT is answered, rows or `Overflow`. `rows` has what was read of each FROM item, in the order of the
 /// items; the own writes are laid over each.
-///
-/// A number that no table of the catalog has is answered as want of memory; no bound statement names one.
 pub fn answer_query(
     alloc: Global,
     catalog: &Catalog,
@@ -25,6 +25,7 @@ pub fn answer_query(
     rows: Items<Rows>,
     own: &Buffer,
 ) -> Result<Answer, NoMemory>
+    requires tables { AllByRecursion (λ join. HasTable catalog.now join.table) query.now.from }
     ensures { IfOk result (λ told. QueryAnswers query.now (tables_seen catalog.now (numbers_of query.now) own.now rows) told) }
 {
     let seen = tables_seen(alloc, catalog, query.from.as_slice(), rows, own)?;
