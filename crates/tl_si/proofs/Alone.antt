@@ -1,5 +1,5 @@
 -- One transaction in the place of another of its number.
-use Rattle.std.proofs.Common.{◌≡◌, ℕ, zero, suc, ◌==◌, ◌<◌, ◌||◌, Bool, true, false, not, cond, List, [], ◌∷◌, Option, Some, None, map, filter, length, refl, sym, ap, subst, ◌∙◌}
+use Rattle.std.proofs.Common.{◌≡◌, ℕ, zero, suc, ◌==◌, ◌||◌, Bool, true, false, not, cond, List, [], ◌∷◌, Option, Some, None, refl, sym, ap, subst, ◌∙◌}
 use Rattle.std.specs.Prelude.{find, insert, remove, slice_get, if◌then◌else◌}
 use Rattle.std.specs.List.{list_any}
 use Rattle.std.proofs.lemmas.Bool.{eqb-true, eq-eqb}
@@ -9,7 +9,7 @@ use Rattle.tl_isolation.specs.State.{put_held, without_held}
 use Rattle.tl_isolation.specs.Step.{with_held}
 use Rattle.tl_si.specs.declared.state.State.{State}
 use Rattle.tl_si.specs.Shown.{IsOut, shown}
-use Rattle.tl_si.specs.Sound.{AreAlone, AreDistinct, tids}
+use Rattle.tl_si.specs.Sound.{AreAlone, tids}
 use Rattle.tl_si.proofs.Logic.{first_false, never, second_false, some_same}
 
 -- where no other has the number nothing is put

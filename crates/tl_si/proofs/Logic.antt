@@ -1,5 +1,5 @@
 -- Small facts of options, of tests, and of keys in order.
-use Rattle.std.proofs.Common.{◌≡◌, ℕ, ◌&&◌, ◌||◌, Bool, true, false, cond, List, [], ◌∷◌, Option, Some, None, Ordering, Less, Equal, Greater, refl, ap, ◌∙◌}
+use Rattle.std.proofs.Common.{◌≡◌, ℕ, ◌&&◌, ◌||◌, Bool, true, false, cond, List, [], ◌∷◌, Some, None, Ordering, Less, Equal, Greater, refl, ap, ◌∙◌}
 use Rattle.std.specs.FinMap.Entries.{below_all, find}
 use Rattle.std.specs.Ordering.{is_eq, is_lt}
 use Rattle.tl_write.specs.Own.{key_cmp}

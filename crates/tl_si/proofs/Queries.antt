@@ -1,5 +1,5 @@
 -- A query has one answer on what a transaction sees.
-use Rattle.std.proofs.Common.{◌≡◌, Bool, true, false, List, Result, Ok, Err, refl, sym, ap, subst, ◌∙◌}
+use Rattle.std.proofs.Common.{◌≡◌, true, List, Ok, Err, refl, sym, ap, subst, ◌∙◌}
 use Rattle.tl_values.specs.declared.value.Value.{Value}
 use Rattle.tl_algebra.specs.declared.fault.ValueFault.TheVariants as fault
 use Rattle.tl_algebra.specs.declared.query.Query.{Query}

@@ -1,5 +1,5 @@
 -- What may be said of statements that read no table.
-use Rattle.std.proofs.Common.{◌≡◌, ℕ, ◌==◌, Bool, true, false, not, ◌&&◌, ◌||◌, List, Option, Some, None, refl, sym, ap, subst, ◌∙◌}
+use Rattle.std.proofs.Common.{◌≡◌, ℕ, ◌==◌, Bool, true, false, not, ◌&&◌, ◌||◌, Option, Some, None, refl, sym, subst, ◌∙◌}
 use Rattle.std.specs.List.{list_any}
 use Rattle.std.proofs.lemmas.Bool.{eqb-true, eq-eqb}
 use Rattle.tl_schema.specs.declared.catalog.Catalog.{Catalog}
@@ -10,7 +10,6 @@ use Rattle.tl_isolation.specs.declared.state.SiState.{SiState}
 use Rattle.tl_isolation.specs.declared.state.Transaction.{Transaction}
 use Rattle.tl_isolation.specs.State.{held_by, is_fresh, is_lost, is_open}
 use Rattle.tl_isolation.specs.Step.{MaySay}
-use Rattle.tl_si.specs.Answers.{tells_recovered, tells_there}
 use Rattle.tl_si.specs.Statements.{may_answer_begin, may_answer_recover}
 use Rattle.tl_si.proofs.Logic.{both, left, right, some_same}
 

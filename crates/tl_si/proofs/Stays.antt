@@ -2,7 +2,7 @@
 use Rattle.std.proofs.Common.{◌≡◌, ℕ, zero, suc, ◌==◌, Bool, true, false, not, ◌||◌, cond, List, [], ◌∷◌, ◌++◌, Option, Some, None, Result, Ok, Err, map, filter, find, take, refl, sym, ap, subst, ◌∙◌}
 use Rattle.std.specs.Prelude.{if◌then◌else◌}
 use Rattle.std.specs.List.{list_any, AllByRecursion}
-use Rattle.std.proofs.lemmas.Bool.{eqb-true, eq-eqb, or_from}
+use Rattle.std.proofs.lemmas.Bool.{eqb-true, eq-eqb}
 use Rattle.std.proofs.lemmas.List.Folds.{list_any-append}
 use Rattle.tl_schema.specs.declared.catalog.Catalog.{Catalog}
 use Rattle.tl_schema.specs.declared.catalog.Setup.{Setup}
@@ -19,7 +19,7 @@ use Rattle.tl_isolation.specs.declared.entry.Said.{Said}
 use Rattle.tl_isolation.specs.declared.state.Commit.{Commit}
 use Rattle.tl_isolation.specs.declared.state.SiState.{SiState}
 use Rattle.tl_isolation.specs.declared.state.Transaction.{Transaction}
-use Rattle.tl_isolation.specs.State.{held_as, held_by, is_fresh, is_lost, opening_state, put_held, tables_after, view_of, without_held}
+use Rattle.tl_isolation.specs.State.{held_as, held_by, is_fresh, is_lost, opening_state, tables_after, view_of, without_held}
 use Rattle.tl_isolation.specs.Step.{Allowed, after, begin, commit, commit_answer, effect_on, end_with, forget_note, keep_answer, lose, meet_rival, open_by_begin, own_after, take_statement, try_commit, undo, undo_answer, with_held}
 use Rattle.tl_si.specs.Sound.{AreDistinct, AreHomeWrites, IsSound, keeps_key, statement_keeps, tids}
 use Rattle.tl_si.proofs.Homes.{Keeps, all_filter, all_map, change_home, empty_home, laid_home, opening_home, puts_home, tables_home}

@@ -1,18 +1,18 @@
 -- The records of one table, as they were after the first commits.
-use Rattle.std.proofs.Common.{◌≡◌, ℕ, ◌+◌, ◌<◌, ◌&&◌, ◌==◌, Bool, true, false, cond, T, List, [], ◌∷◌, Option, Some, None, Ordering, Less, Equal, Greater, filter, take, refl, sym, ap, subst, ◌∙◌, arith}
+use Rattle.std.proofs.Common.{◌≡◌, ℕ, ◌+◌, ◌&&◌, ◌==◌, Bool, true, false, cond, T, List, [], ◌∷◌, Option, Some, None, Ordering, Less, filter, take, refl, sym, ap, subst, ◌∙◌, arith}
 use Rattle.std.specs.Prelude.{nat_lt, unwrap_or, if◌then◌else◌}
 use Rattle.std.specs.FinMap as finmap
-use Rattle.std.specs.FinMap.Entries.{below_all, find, find-where_key, is_sorted, is_sorted-where_key, same_entries}
+use Rattle.std.specs.FinMap.Entries.{below_all, find, find-where_key, is_sorted, is_sorted-where_key}
 use Rattle.std.specs.Cmp.Lexicographic.{nat_list_cmp_total}
 use Rattle.std.specs.Cmp.{nat_cmp_is, nat_cmp_total, tied_itself}
-use Rattle.std.specs.Ordering.{is_eq, is_le, is_lt, nat_cmp, ordering_then}
+use Rattle.std.specs.Ordering.{is_le, is_lt, nat_cmp, ordering_then}
 use Rattle.std.proofs.lemmas.Bool.{and_parts, eqb-true}
 use Rattle.tl_write.specs.Own.{key_cmp}
 use Rattle.tl_write.specs.Tables.{Tables, is_in}
 use Rattle.tl_isolation.specs.declared.state.Commit.{Commit}
 use Rattle.tl_isolation.specs.State.{tables_after}
 use Rattle.tl_si.specs.declared.past.Place.{Place}
-use Rattle.tl_si.specs.Places.{AreFound, Records, above, places_of, row_after, same_key, with_record, with_records, with_row}
+use Rattle.tl_si.specs.Places.{AreFound, Records, above, row_after, same_key, with_record, with_records, with_row}
 use Rattle.tl_si.proofs.Laid.{Key, Row, equal_keys, tie}
 use Rattle.tl_si.proofs.Rows.{row_is}
 use Rattle.tl_si.proofs.Logic.{both, none_below}

@@ -1,5 +1,5 @@
 -- The state that the program keeps, as a state of snapshot isolation.
-use Rattle.std.specs.Prelude.{◌≡◌, ℕ, ◌<◌, Bool, List, Option, Some, None, find, length, remove, slice_get}
+use Rattle.std.specs.Prelude.{◌≡◌, ℕ, ◌<◌, Bool, Option, Some, None, find, length, remove, slice_get}
 use Rattle.tl_isolation.specs.declared.state.Transaction.{Transaction}
 use Rattle.tl_isolation.specs.declared.state.SiState.{SiState}
 use Rattle.tl_si.specs.declared.state.State.{State}

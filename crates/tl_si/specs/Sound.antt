@@ -1,5 +1,5 @@
 -- What holds of each state that entries lead to: a row stands under its own record key, and a number is held once.
-use Rattle.std.specs.Prelude.{◌≡◌, ℕ, ◌==◌, Bool, true, false, List, [], ◌∷◌, Option, Some, map}
+use Rattle.std.specs.Prelude.{◌≡◌, ℕ, ◌==◌, Bool, true, false, List, [], ◌∷◌, Some, map}
 use Rattle.std.specs.FinMap as finmap
 use Rattle.std.specs.List.{AllByRecursion, list_all, list_any}
 use Rattle.tl_values.specs.declared.value.Value.{Value}

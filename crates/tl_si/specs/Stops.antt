@@ -1,8 +1,7 @@
 -- What one entry makes of the state that is kept.
-use Rattle.std.specs.Prelude.{◌≡◌, Result, Ok, Err}
+use Rattle.std.specs.Prelude.{Result, Ok, Err}
 use Rattle.tl_schema.specs.declared.catalog.Catalog.{Catalog}
 use Rattle.tl_isolation.specs.declared.entry.Entry.{Entry}
-use Rattle.tl_isolation.specs.declared.state.SiState.{SiState}
 use Rattle.tl_isolation.specs.History.{Step}
 use Rattle.tl_isolation.specs.Step.{Allowed}
 use Rattle.tl_si.specs.declared.state.State.{State}

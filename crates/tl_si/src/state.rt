@@ -14,7 +14,6 @@ use std::alloc::Global;
 use tl_base::{Duplicate, Items, NoMemory, NodeId, NodeSet, Text, Tid};
 use tl_isolation::{Commit, NodeState};
 use tl_schema::{Catalog, OpeningRow, Setup, Table, record_key};
-
 use tl_write::{Buffer, Write};
 
 /// The state of snapshot isolation, with the past so kept that no statement goes through all commits.

@@ -1,4 +1,4 @@
-use Rattle.std.proofs.Common.{◌≡◌, ℕ, List, Some, ap, ◌∙◌}
+use Rattle.std.proofs.Common.{ℕ, List, Some, ap, ◌∙◌}
 use Rattle.tl_isolation.specs.declared.state.NodeState.{NodeState}
 use Rattle.tl_isolation.specs.State.{node_of, put_node}
 use Rattle.tl_si.specs.Shown.{shown}

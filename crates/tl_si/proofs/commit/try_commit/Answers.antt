@@ -1,6 +1,6 @@
-use Rattle.std.proofs.Common.{◌≡◌, ℕ, ◌==◌, Option, refl, subst, sym, ◌∙◌}
+use Rattle.std.proofs.Common.{ℕ, ◌==◌, Option, refl, subst, sym, ◌∙◌}
 use Rattle.tl_isolation.specs.declared.state.Transaction.{Transaction}
-use Rattle.tl_si.specs.Shown.{IsOut, TakesOut, shown}
+use Rattle.tl_si.specs.Shown.{IsOut, TakesOut}
 use Rattle.tl_isolation.specs.Step.{try_commit}
 use Rattle.tl_si.proofs.Alone.{put_changed}
 use Rattle.tl_si.proofs.commit.try_commit.Goals as goal

@@ -1,5 +1,4 @@
-use Rattle.std.proofs.Common.{ℕ, ◌<◌, Result, Err, ap, length, subst, ◌∙◌, arith}
-use Rattle.tl_isolation.specs.declared.entry.Entry.{Entry}
+use Rattle.std.proofs.Common.{◌<◌, Result, Err, ap, length, subst, ◌∙◌, arith}
 use Rattle.tl_si.specs.declared.stop.Stop.{Stop}
 use Rattle.tl_si.specs.Stops.{Stepped}
 use Rattle.tl_si.proofs.Entries.{goes_on, opens, stops}

@@ -1,4 +1,4 @@
-use Rattle.std.proofs.Common.{ℕ, ◌==◌, not, Bool, List, Option, Some, filter, ap, sym, ◌∙◌}
+use Rattle.std.proofs.Common.{ℕ, ◌==◌, not, Bool, List, Option, filter, ap, sym, ◌∙◌}
 use Rattle.std.specs.Prelude.{position, unwrap_or}
 use Rattle.tl_isolation.specs.declared.state.NodeState.{NodeState}
 use Rattle.tl_isolation.specs.State.{idle}

@@ -1,8 +1,8 @@
-use Rattle.std.proofs.Common.{List, ℕ, ◌++◌, ◌∷◌, [], ap, subst, sym, ◌∙◌}
+use Rattle.std.proofs.Common.{List, ℕ, ap, subst, ◌∙◌}
 use Rattle.std.specs.Prelude.{Option, unwrap_or}
 use Rattle.std.specs.FinMap as finmap
 use Rattle.tl_si.specs.declared.past.Place.{Place}
-use Rattle.tl_si.specs.Places.{HasMore, places_of}
+use Rattle.tl_si.specs.Places.{HasMore}
 use Rattle.tl_si.proofs.Found.{has_more}
 use Rattle.tl_si.proofs.past.with_place.Goals as goal
 

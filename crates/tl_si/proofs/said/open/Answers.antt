@@ -1,4 +1,4 @@
-use Rattle.std.proofs.Common.{◌≡◌, ℕ, ◌==◌, Option, subst, sym, ◌∙◌}
+use Rattle.std.proofs.Common.{ℕ, ◌==◌, Option, subst, sym, ◌∙◌}
 use Rattle.tl_isolation.specs.declared.state.Transaction.{Transaction}
 use Rattle.tl_isolation.specs.Step.{open_by_begin}
 use Rattle.tl_si.specs.Shown.{IsOut, TakesOut, shown}

@@ -1,4 +1,4 @@
-use Rattle.std.proofs.Common.{◌≡◌, ◌==◌, sym, ◌∙◌}
+use Rattle.std.proofs.Common.{◌==◌, sym, ◌∙◌}
 use Rattle.tl_isolation.specs.declared.state.Transaction.{Transaction}
 use Rattle.tl_si.specs.Shown.{shown}
 use Rattle.tl_si.proofs.Alone.{same_held}

@@ -1,6 +1,5 @@
-use Rattle.std.proofs.Common.{◌≡◌, ◌==◌, List, ap, sym, ◌∙◌}
+use Rattle.std.proofs.Common.{◌==◌, List, ap, sym, ◌∙◌}
 use Rattle.std.specs.Prelude.{position}
-use Rattle.tl_isolation.specs.declared.state.SiState.{SiState}
 use Rattle.tl_isolation.specs.declared.state.Transaction.{Transaction}
 use Rattle.tl_si.specs.Shown.{shown}
 use Rattle.tl_si.proofs.Find.{found_at, none_at}
