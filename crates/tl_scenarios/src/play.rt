@@ -23,7 +23,7 @@ fn words_of(alloc: Global, words: &str) -> Result<Items<Text>, NoMemory> {
 /// The call's script, and behind it as many bytes more as the case says.
 fn source_of(alloc: Global, case: &Case, call: &Call) -> Result<MemorySource, NoMemory> {
     let mut bytes = Bytes::from_slice(alloc, call.script.as_bytes())?;
-    let byte = case.number("byte", 0) as u8;
+    let byte = case.told("byte").parse::<u8>().unwrap_or(0);
     for _ in 0..case.more() {
         bytes.push(byte)?;
     }
