@@ -1,18 +1,16 @@
 -- Tables, statements and schedules that no bound script has.
-use Rattle.std.proofs.Common.{◌≡◌, ℕ, ◌<◌, ◌≤◌, Bool, true, false, List, [], ◌∷◌, Some, None, length, refl, arith}
-use Rattle.std.specs.Prelude.{◌==◌}
+use Rattle.std.proofs.Common.{◌≡◌, ◌<◌, Bool, true, false, List, [], ◌∷◌, None, length, refl, arith}
 use Rattle.tl_base.specs.declared.place.Settings.{Settings}
 use Rattle.tl_values.specs.declared.value.Kind.TheVariants as kind
 use Rattle.tl_schema.specs.declared.catalog.Column.{Column}
 use Rattle.tl_schema.specs.declared.catalog.Index.{Index}
-use Rattle.tl_schema.specs.declared.catalog.Table.{Table}
 use Rattle.tl_algebra.specs.declared.edit.Edit.TheVariants.{Insert, Update}
 use Rattle.tl_isolation.specs.declared.script.Script.{Script}
 use Rattle.tl_isolation.specs.declared.script.Session.{Session}
 use Rattle.tl_isolation.specs.declared.script.TurnItem.TheVariants.{One}
 use Rattle.tl_isolation.specs.declared.script.VanishKind.TheVariants as vanish
 use Rattle.tl_protocol.proofs.Account.{account, bank, with_balance}
-use Rattle.tl_journal.specs.Binding.{EditFits, IsBound, TableFits, has_session}
+use Rattle.tl_journal.specs.Binding.{EditFits, IsBound, TableFits}
 
 apart : (b : Bool) → b ≡ true → b ≡ false → ⊥
 apart true h i = cc
@@ -52,6 +50,9 @@ many_indexes indexes e h = let most = h.few in omega (arith, e, most)
 
 pub index_of_no_column : TableFits (record account { indexes = record { name = []; columns = [] } ∷ [] }) → ⊥
 index_of_no_column h = apart true refl h.indexes.0.some
+
+pub index_of_one_column_twice : TableFits (record account { indexes = record { name = []; columns = 1 ∷ 1 ∷ [] } ∷ [] }) → ⊥
+index_of_one_column_twice h = apart true refl h.indexes.0.once.0
 
 pub index_of_a_third_column : TableFits (record account { indexes = record { name = []; columns = 2 ∷ [] } ∷ [] }) → ⊥
 index_of_a_third_column h = let below : 2 < 2 = h.indexes.0.columns.0 in omega (arith, below)

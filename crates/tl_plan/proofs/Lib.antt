@@ -1,5 +1,6 @@
 pub mod Alike
 pub mod Accesses
+pub mod BoundQueries
 pub mod Bounds
 pub mod Parts
 pub mod Plans
