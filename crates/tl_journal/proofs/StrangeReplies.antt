@@ -24,6 +24,7 @@ use Rattle.tl_journal.specs.Bytes.{heard, log_key, place_of, written}
 use Rattle.tl_journal.specs.Journal.{IsEvent, entries_told, has_vanished, is_post, node_after, session_of}
 use Rattle.tl_journal.specs.Law.{NothingStrange}
 use Rattle.tl_journal.specs.Node.{Node}
+use Rattle.tl_journal.specs.Served.{Serves, parts_of}
 use Rattle.tl_journal.specs.Strange.{is_odd_for, is_sound, may_reply, sound_heard, stops_at}
 use Rattle.tl_journal.proofs.Heeded.{heeded}
 use Rattle.tl_journal.proofs.Journals.{stood_at}
@@ -40,7 +41,7 @@ use Rattle.tl_journal.proofs.Stood.{Stood}
 use Rattle.tl_journal.proofs.StrangeCounts.{HasRoom, has_room}
 use Rattle.tl_journal.proofs.StrangeLefts.{LeftIs, left_after}
 use Rattle.tl_journal.proofs.StrangeOdd.{OwnLog, not_odd_at}
-use Rattle.tl_journal.proofs.StrangeSound.{sound_at}
+use Rattle.tl_journal.proofs.StrangeSound.{may_at, sound_at}
 use Rattle.tl_journal.proofs.StrangeStops.{goes_on_at}
 use Rattle.tl_journal.proofs.StrangeTells.{may_be}
 
@@ -101,7 +102,10 @@ nothing_strange script settings past e rest run rows request session is_session 
     let state = state_after (setup_of script settings) (entries_told past) in
     let may : may_reply ask e.reply ≡ true =
     may_be (layout_of script settings) script settings past e rest s run.shards few rows run.trace.served run.trace.events_are ask
-    (asks_at settings script.catalog node ask run.shards stands.shards asked) (asks_fit settings script.catalog (length past) node ask stands.fits asked) m.stands_at m.bytes in
+    (asks_at settings script.catalog node ask run.shards stands.shards asked) (asks_fit settings script.catalog (length past) node ask stands.fits asked) m.stands_at m.bytes
+    (λ m request is. may_at R (layout_of script settings) (setup_of script settings) settings s.world state (entries_told past) e.node node b
+    m request e.reply h.after (asked ∙ ap (λ (x : Ask). Some x) is)
+    (subst (λ (x : Ask). Serves settings (parts_of s.world) e.node x (heard x e.reply) h.after) is h.serves)) in
     let sound : is_sound script.catalog ask (heard ask e.reply) ≡ true =
     sound_at R (layout_of script settings) (setup_of script settings) settings s.world state (entries_told past) e.node node b ask (heard ask e.reply) h.after asked h.serves in
     let same : sound_heard script.catalog ask e.reply ≡ heard ask e.reply = both_pass script.catalog ask e.reply may sound in

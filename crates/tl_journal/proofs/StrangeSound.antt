@@ -1,8 +1,8 @@
 -- Each cell that a place of a run replies is a cell for its key, and no set that a manager tells has too great a number.
 use Rattle.std.proofs.Common.{◌≡◌, inl, inr, ℕ, ◌≤◌, ◌⊎◌, ◌^◌, Bool, true, false, List, [], ◌∷◌, Option, Some, None, refl, sym, ap, ◌∙◌, subst, arith}
-use Rattle.std.specs.Prelude.{nat_le, nat_lt, if◌then◌else◌}
+use Rattle.std.specs.Prelude.{not, ◌||◌, nat_le, nat_lt, if◌then◌else◌}
 use Rattle.std.specs.List.{AllByRecursion, list_all, list_any}
-use Rattle.std.proofs.lemmas.Bool.{and_from, and_parts, leb-true, not_from_false, or_from}
+use Rattle.std.proofs.lemmas.Bool.{and_from, and_parts, leb-true, not_from_false, or_from, or_left, or_right}
 use Rattle.std.proofs.lemmas.Bool.Decides.{nat_tests}
 use Rattle.tl_base.specs.declared.place.Settings.{Settings}
 use Rattle.tl_schema.specs.declared.catalog.Catalog.{Catalog}
@@ -10,9 +10,13 @@ use Rattle.tl_schema.specs.declared.catalog.Setup.{Setup}
 use Rattle.tl_descriptor.specs.declared.run.Run.{Run}
 use Rattle.tl_descriptor.specs.Runs.{are_apart}
 use Rattle.tl_descriptor.specs.Tids.{TidSet, IsCanonical, begins}
+use Rattle.tl_descriptor.proofs.Order.{begins_itself}
 use Rattle.tl_manager.specs.declared.active.Active.{Active}
+use Rattle.tl_manager.specs.declared.request.ManagerReply.{ManagerReply}
 use Rattle.tl_manager.specs.declared.request.ManagerRequest.{ManagerRequest}
 use Rattle.tl_manager.specs.declared.request.ManagerRequest.TheVariants as asked
+use Rattle.tl_manager.specs.declared.request.Reply.{Reply}
+use Rattle.tl_manager.specs.declared.request.Reply.TheVariants as reply
 use Rattle.tl_manager.specs.Floor.{newer}
 use Rattle.tl_isolation.specs.declared.entry.Entry.{Entry}
 use Rattle.tl_isolation.specs.declared.state.SiState.{SiState}
@@ -23,14 +27,14 @@ use Rattle.tl_protocol.specs.World.{Fact, Txn, World}
 use Rattle.tl_protocol.proofs.Finished.{Snap}
 use Rattle.tl_protocol.proofs.ForKey.{logs_for, records_for}
 use Rattle.tl_protocol.proofs.Reached.{Reached, reached}
-use Rattle.tl_journal.specs.Ask.{Ask, LoadCommits, StoreCommits, LoadLog, StoreLog, LoadRecord, StoreRecord, ReadPage, DrawNumbers, AskManager, Found, Heard, Log}
+use Rattle.tl_journal.specs.Ask.{Ask, LoadCommits, StoreCommits, LoadLog, StoreLog, LoadRecord, StoreRecord, ReadPage, DrawNumbers, AskManager, Found, Heard, Log, Told}
 use Rattle.tl_journal.specs.Asks.{asks}
-use Rattle.tl_journal.specs.Bytes.{home_of}
+use Rattle.tl_journal.specs.Bytes.{heard, home_of}
 use Rattle.tl_journal.specs.ForKey.{greatest_tid, is_record_for}
 use Rattle.tl_journal.specs.Node.{Node}
 use Rattle.tl_journal.specs.Reads.{Reads}
 use Rattle.tl_journal.specs.Served.{Answers, IsMark, IsWithin, Parts, Serves, parts_of}
-use Rattle.tl_journal.specs.Strange.{is_great, is_sound}
+use Rattle.tl_journal.specs.Strange.{is_great, is_sound, may_answer, may_reply}
 use Rattle.tl_journal.proofs.Asking.{may_ask}
 use Rattle.tl_journal.proofs.ForKeyTests.{keys_are, record_is}
 use Rattle.tl_journal.proofs.ManagerServes.{MayAsk}
@@ -107,6 +111,38 @@ module _ (catalog : Catalog) (settings : Settings) (p : Parts) (low : AreLow p) 
   manager_sound (asked.Claim node) heard after may (inr v) =
       subst (λ (x : Heard). is_sound catalog (AskManager m (asked.Claim node)) x ≡ true) (sym v.4) refl
 
+-- ---- what a manager may answer
+
+-- the newer of a copy and a set is not older than the set
+not_older : (copy seen : TidSet) → IsCanonical seen → (begins seen (newer copy seen) || not (begins (newer copy seen) seen)) ≡ true
+not_older copy seen h = by (begins copy seen) refl
+  where
+    by : (b : Bool) → begins copy seen ≡ b → (begins seen (if b then seen else copy) || not (begins (if b then seen else copy) seen)) ≡ true
+    by true e = or_left (begins seen seen) (not (begins seen seen)) (begins_itself seen h)
+    by false e = or_right (begins seen copy) (not (begins copy seen)) (ap not e)
+
+abbrev may_hear : ManagerRequest → Heard → Bool
+may_hear request (Told told) = may_answer request told
+may_hear request other = true
+
+any_other : (request : ManagerRequest) (heard : Heard) → ((told : ManagerReply) → may_answer request told ≡ true) → may_hear request heard ≡ true
+any_other request (Told told) h = h told
+any_other request heard h = refl
+
+manager_may : (settings : Settings) (p : Parts) (n m : ℕ) (request : ManagerRequest) (heard : Heard) (after : Parts) → MayAsk IsCanonical settings p n m request
+    → Answers settings p m request heard after → may_hear request heard ≡ true
+manager_may settings p n m (asked.Begin node seen) heard after may (inl v) =
+    let copy : TidSet = newer (p.copies m) seen in
+    subst (λ (x : Heard). may_hear (asked.Begin node seen) x ≡ true) (sym v.2)
+    (and_from (begins seen copy || not (begins copy seen)) (begins v.1 copy) (not_older (p.copies m) seen may.2) v.4.begins_copy)
+manager_may settings p n m (asked.Begin node seen) heard after may (inr v) = subst (λ (x : Heard). may_hear (asked.Begin node seen) x ≡ true) (sym v.0) refl
+manager_may settings p n m (asked.Range low high) heard after may v = any_other (asked.Range low high) heard (λ told. refl)
+manager_may settings p n m (asked.End tid) heard after may v = any_other (asked.End tid) heard (λ told. refl)
+manager_may settings p n m (asked.Orphans node) heard after may v = any_other (asked.Orphans node) heard (λ told. refl)
+manager_may settings p n m (asked.Floor seen) heard after may v = any_other (asked.Floor seen) heard (λ told. refl)
+manager_may settings p n m (asked.Post node also) heard after may v = absurd v
+manager_may settings p n m (asked.Claim node) heard after may v = any_other (asked.Claim node) heard (λ told. refl)
+
 -- ---- what a shard tells
 
 module _ (catalog : Catalog) where
@@ -155,6 +191,28 @@ module _ (R : Txn → List Fact → Reads → Type 0) (layout : Layout) (setup :
   asked_low m (asked.Floor seen) h = snap_low seen h
   asked_low m (asked.Post i also) h = h
   asked_low m (asked.Claim i) h = h
+
+  asked_canonical : (m : ℕ) (request : ManagerRequest) → MayAsk (λ s. Snap s (reached b.opening b.reach).ghost.finished) settings (parts_of w) n m request
+      → MayAsk IsCanonical settings (parts_of w) n m request
+  asked_canonical m (asked.Begin i seen) h = (h.0, h.1, h.2.known.canonical)
+  asked_canonical m (asked.Range low high) h = h
+  asked_canonical m (asked.End tid) h = h
+  asked_canonical m (asked.Orphans i) h = h
+  asked_canonical m (asked.Floor seen) h = h.known.canonical
+  asked_canonical m (asked.Post i also) h = h
+  asked_canonical m (asked.Claim i) h = h
+
+  by_reply : (m : ℕ) (request : ManagerRequest) (p : Reply) → may_hear request (heard (AskManager m request) p) ≡ true → may_reply (AskManager m request) p ≡ true
+  by_reply m request (reply.Store told) h = refl
+  by_reply m request (reply.Manager told) h = h
+
+  -- what a manager answers in a run is what it may
+  pub may_at : (m : ℕ) (request : ManagerRequest) (p : Reply) (after : Parts) → asks settings setup.catalog node ≡ Some (AskManager m request)
+      → Serves settings (parts_of w) n (AskManager m request) (heard (AskManager m request) p) after → may_reply (AskManager m request) p ≡ true
+  may_at m request p after is v =
+      by_reply m request p
+      (manager_may settings (parts_of w) n m request (heard (AskManager m request) p) after
+      (asked_canonical m request (may_ask R layout setup settings w state entries n node b m request is)) v)
 
   -- what a node hears in a run is sound
   pub sound_at : (ask : Ask) (heard : Heard) (after : Parts) → asks settings setup.catalog node ≡ Some ask → Serves settings (parts_of w) n ask heard after

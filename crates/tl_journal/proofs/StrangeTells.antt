@@ -301,10 +301,6 @@ module _ (layout : Layout) (script : Script) (settings : Settings) (past : List 
   tells DrawNumbers answer there fits at_place so told = refl
   tells (AskManager m asked) answer there fits at_place so told = absurd there
 
-  any_reply : (m : ℕ) (asked : ManagerRequest) (p : Reply) → may_reply (AskManager m asked) p ≡ true
-  any_reply m asked (reply.Store told) = refl
-  any_reply m asked (reply.Manager told) = refl
-
   by_shard : (ask : Ask) → is_of_shard ask ≡ true → IsAtShard settings ask → AskFits (length past + 1) ask → e.place ≡ place_of settings ask
       → e.request ≡ written ask → may_reply ask e.reply ≡ true
   by_shard ask o there fits at_place so =
@@ -313,13 +309,14 @@ module _ (layout : Layout) (script : Script) (settings : Settings) (past : List 
 
   -- the reply to a request of a node is one that a place may give
   pub may_be : (ask : Ask) → (is_of_shard ask ≡ true → IsAtShard settings ask) → AskFits (length past + 1) ask → e.place ≡ place_of settings ask
-      → e.request ≡ written ask → may_reply ask e.reply ≡ true
-  may_be LoadCommits there fits at_place so = by_shard LoadCommits refl (there refl) fits at_place so
-  may_be (StoreCommits stamp set) there fits at_place so = by_shard (StoreCommits stamp set) refl (there refl) fits at_place so
-  may_be (LoadLog tid) there fits at_place so = by_shard (LoadLog tid) refl (there refl) fits at_place so
-  may_be (StoreLog stamp entry) there fits at_place so = by_shard (StoreLog stamp entry) refl (there refl) fits at_place so
-  may_be (LoadRecord key) there fits at_place so = by_shard (LoadRecord key) refl (there refl) fits at_place so
-  may_be (StoreRecord key stamp versions) there fits at_place so = by_shard (StoreRecord key stamp versions) refl (there refl) fits at_place so
-  may_be (ReadPage shard from before) there fits at_place so = by_shard (ReadPage shard from before) refl (there refl) fits at_place so
-  may_be DrawNumbers there fits at_place so = by_shard DrawNumbers refl (there refl) fits at_place so
-  may_be (AskManager m asked) there fits at_place so = any_reply m asked e.reply
+      → e.request ≡ written ask → ((m : ℕ) (asked : ManagerRequest) → ask ≡ AskManager m asked → may_reply (AskManager m asked) e.reply ≡ true)
+      → may_reply ask e.reply ≡ true
+  may_be LoadCommits there fits at_place so manager = by_shard LoadCommits refl (there refl) fits at_place so
+  may_be (StoreCommits stamp set) there fits at_place so manager = by_shard (StoreCommits stamp set) refl (there refl) fits at_place so
+  may_be (LoadLog tid) there fits at_place so manager = by_shard (LoadLog tid) refl (there refl) fits at_place so
+  may_be (StoreLog stamp entry) there fits at_place so manager = by_shard (StoreLog stamp entry) refl (there refl) fits at_place so
+  may_be (LoadRecord key) there fits at_place so manager = by_shard (LoadRecord key) refl (there refl) fits at_place so
+  may_be (StoreRecord key stamp versions) there fits at_place so manager = by_shard (StoreRecord key stamp versions) refl (there refl) fits at_place so
+  may_be (ReadPage shard from before) there fits at_place so manager = by_shard (ReadPage shard from before) refl (there refl) fits at_place so
+  may_be DrawNumbers there fits at_place so manager = by_shard DrawNumbers refl (there refl) fits at_place so
+  may_be (AskManager m asked) there fits at_place so manager = manager m asked refl

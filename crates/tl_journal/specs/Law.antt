@@ -111,7 +111,7 @@ pub record Holds (script : Script) (settings : Settings) (past : List Event) (w 
   pub records : (key : Key) → is_record_key key ≡ true → read_cell (bytes_at script settings past key) ≡ Some (w.cells key).versions
   pub commits : sets.read_set (bytes_at script settings past commits_key) ≡ Some w.commits.finished
   pub logs : (tid : ℕ) → tid ≤ 2 ^ 62 → IsLogCell tid (bytes_at script settings past (log_key tid)) (w.logs tid)
-  -- no cell stands under another key
+  -- no cell stands under another key in its shard
   pub others : (key : Key) → IsOther key → bytes_at script settings past key ≡ []
   pub active : (m : ℕ) → m < settings.managers → AreActive settings w.active m (active_after (manager_log m past))
   pub notices : (n : ℕ) → IsNotice (w.notices n) (notice_after (manager_log (home_of settings n) past) n)

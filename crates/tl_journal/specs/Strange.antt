@@ -10,9 +10,11 @@ use Rattle.tl_base.specs.declared.store.StoreReply.TheVariants as answered
 use Rattle.tl_schema.specs.declared.catalog.Catalog.{Catalog}
 use Rattle.tl_cells.specs.Cells.{greatest}
 use Rattle.tl_descriptor.specs.declared.run.Run.{Run}
-use Rattle.tl_descriptor.specs.Tids.{TidSet, has}
+use Rattle.tl_descriptor.specs.Tids.{TidSet, begins, has}
 use Rattle.tl_manager.specs.declared.request.ManagerReply.{ManagerReply}
 use Rattle.tl_manager.specs.declared.request.ManagerReply.TheVariants as manager
+use Rattle.tl_manager.specs.declared.request.ManagerRequest.{ManagerRequest}
+use Rattle.tl_manager.specs.declared.request.ManagerRequest.TheVariants as asked
 use Rattle.tl_manager.specs.declared.request.Reply.{Reply}
 use Rattle.tl_manager.specs.declared.request.Reply.TheVariants as reply
 use Rattle.tl_versions.specs.Versions.{is_written}
@@ -66,7 +68,7 @@ fills found false = nat_le found page_limit
 abbrev pub is_page : Key → Key → List Item → Bool → Bool
 is_page from before items more = are_from from items && list_all (is_item before) items && fills (length items) more
 
--- stamps, and the keys of a page. Of which kind the reply is, `takes` looks
+-- stamps, and the keys of a page. Of which kind the reply is, `heard` looks
 abbrev pub may_tell : Ask → StoreReply → Bool
 may_tell LoadCommits (answered.Cell stamp value) = is_cell stamp value
 may_tell (LoadLog tid) (answered.Cell stamp value) = is_log_cell stamp value
@@ -77,8 +79,16 @@ may_tell (StoreLog stamp entry) told = is_outcome stamp told
 may_tell (StoreRecord key stamp versions) told = is_outcome stamp told
 may_tell ask told = true
 
+-- what a manager may answer, whatever it holds: a snapshot isn't older than the set that the manager is shown, since it is the
+-- newer of that and the manager's copy, and the floor begins it
+abbrev pub may_answer : ManagerRequest → ManagerReply → Bool
+may_answer (asked.Begin node seen) (manager.Began tid snapshot floor) =
+    (begins seen snapshot || not (begins snapshot seen)) && begins floor snapshot
+may_answer request told = true
+
 abbrev pub may_reply : Ask → Reply → Bool
 may_reply ask (reply.Store told) = may_tell ask told
+may_reply (AskManager m request) (reply.Manager told) = may_answer request told
 may_reply ask (reply.Manager told) = true
 
 -- ---- what is a cell for its key
@@ -98,7 +108,7 @@ is_sound catalog (LoadRecord key) (Record cell) = is_record_for catalog key cell
 is_sound catalog (ReadPage shard from before) (Page found more) =
     list_all (λ (f : Found). is_record_for catalog f.key f.versions) found
 is_sound catalog (LoadLog tid) (Log (Some log)) = list_all (is_key_of catalog) log.entry.writes
-is_sound catalog (AskManager m asked) (Told told) = not (has_great told)
+is_sound catalog (AskManager m request) (Told told) = not (has_great told)
 is_sound catalog ask heard = true
 
 -- what a node hears of a reply: `Strange`, at which it stops, where no place may give it or a cell isn't one for its key
