@@ -2,6 +2,8 @@
 #![tactic(auto)]
 
 mod asked;
+mod for_key;
+mod given;
 mod heard;
 mod hears;
 mod law;
@@ -11,9 +13,11 @@ mod requests;
 mod txn_id;
 
 pub use asked::Asked;
+pub use given::is_outcome_of;
 pub use heard::{CommitsCell, Found, LogCell, Page, RecordCell, StoreOutcome};
 pub use hears::{
-    hear_commits, hear_log, hear_manager, hear_numbers, hear_page, hear_record, hear_store,
+    hear_begin, hear_commits, hear_log, hear_manager, hear_numbers, hear_page, hear_record,
+    hear_store,
 };
 pub use law::requests_alike;
 pub use layout::Layout;
