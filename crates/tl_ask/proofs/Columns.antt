@@ -73,6 +73,7 @@ none_left columns places values [] at some so nothing = no_values (drop at place
   where
     dropped : 0 < length (drop at places)
     dropped = let e : length (drop at places) ≡ length places - at = length-drop at places in omega arith
+
     no_values : (left : List ℕ) → 0 < length left → false ≡ are_of_columns columns left []
     no_values [] h = absurd (omega arith)
     no_values (place ∷ left) h = refl

@@ -1,11 +1,10 @@
 -- What code keeps of what a node is doing. What only the pending request needs is left out: a loaded cell once its store is
--- asked for, the key of a read, the writes of a transaction that is to be finished.
-use Rattle.std.specs.Prelude.{Bool, true, false, List, [], ◌∷◌, Option, Some, None}
+-- asked for, the writes of a transaction that is to be finished.
+use Rattle.std.specs.Prelude.{Bool, true, false, [], Option, Some, None}
 use Rattle.tl_manager.specs.State.{opening_copy}
 use Rattle.tl_protocol.specs.Store.{CommitsCell}
 use Rattle.tl_protocol.specs.World.{Txn, Loaded}
-use Rattle.tl_journal.specs.Reads.{Read, Point, Range}
-use Rattle.tl_journal.specs.Node.{Doing, Reading, Stores, Removes, Closing, Stripping, Finishing}
+use Rattle.tl_journal.specs.Node.{Doing, Stores, Removes, Closing, Stripping, Finishing}
 
 abbrev pub nothing_loaded : Loaded
 nothing_loaded = record { key = []; stamp = 0; versions = [] }
@@ -24,13 +23,7 @@ thin_commits (Some c) = Some nothing_finished
 abbrev pub bare : Txn → Txn
 bare t = record t { snapshot = opening_copy; own = [] }
 
-abbrev pub thin_read : List Read → List Read
-thin_read [] = []
-thin_read (Point key ∷ left) = Point [] ∷ left
-thin_read (Range shard from first before ∷ left) = Range shard from first before ∷ left
-
 abbrev pub thin : Doing → Doing
-thin (Reading t reads) = Reading t (record reads { left = thin_read reads.left })
 thin (Stores s l) = Stores s (thin_loaded l)
 thin (Removes r l) = Removes r (thin_loaded l)
 thin (Closing t d c) = Closing (bare t) d (thin_commits c)

@@ -142,10 +142,13 @@ is_stopped doing = false
 abbrev pub stops_at : Settings → Catalog → Node → Heard → Bool
 stops_at settings catalog node heard = is_stopped (takes settings catalog node heard answer.Begun).doing
 
+-- what the node hears
+abbrev pub is_strange_to : Settings → Catalog → Node → Heard → Bool
+is_strange_to settings catalog node heard = stops_at settings catalog node heard || is_odd_for node.doing heard
+
 -- the reply to what the node asks
 abbrev pub is_strange : Settings → Catalog → Node → Ask → Reply → Bool
-is_strange settings catalog node ask told =
-    stops_at settings catalog node (sound_heard catalog ask told) || is_odd_for node.doing (sound_heard catalog ask told)
+is_strange settings catalog node ask told = is_strange_to settings catalog node (sound_heard catalog ask told)
 
 -- ---- what follows for every node
 

@@ -5,9 +5,10 @@ use tl_ask::{
     hear_numbers, hear_page, hear_record, hear_store, load_commits, load_log, load_record,
     read_page, requests_alike, store_commits, store_log, store_record,
 };
-use tl_base::{Bytes, Item, Items, NodeId, Settings, Stamp, StoreReply};
+use tl_base::{Bytes, Item, Items, NodeId, Settings, Stamp, StoreReply, Text};
 use tl_descriptor::Descriptor;
 use tl_manager::{ManagerReply, ManagerRequest, Reply};
+use tl_schema::{Catalog, Column, Table};
 use tl_versions::Versions;
 
 // The key of the record with the key 1 in table 0.
@@ -145,12 +146,47 @@ enum Kind {
     Manager,
 }
 
+// A table whose key is one number.
+fn catalog(alloc: Global) -> Result<Catalog, Fail> {
+    let mut columns = Items::new(alloc);
+    columns.push(Column {
+        name: Text::from_str(alloc, "k")?,
+        kind: tl_values::Kind::Int,
+        not_null: true,
+    })?;
+    let mut tables = Items::new(alloc);
+    tables.push(Table {
+        name: Text::from_str(alloc, "t")?,
+        columns,
+        key: Items::from_slice(alloc, &[0])?,
+        indexes: Items::new(alloc),
+    })?;
+    Ok(Catalog { tables })
+}
+
 fn heard(alloc: Global, kind: Kind, reply: &Reply) -> Result<String, Fail> {
     let text = match kind {
         Kind::Commits => format!(in alloc; "{:?}", hear_commits(alloc, reply)?)?,
-        Kind::Log => format!(in alloc; "{:?}", hear_log(alloc, reply)?)?,
-        Kind::Record => format!(in alloc; "{:?}", hear_record(alloc, reply)?)?,
-        Kind::Page => format!(in alloc; "{:?}", hear_page(alloc, reply)?)?,
+        Kind::Log => format!(in alloc; "{:?}", hear_log(alloc, &catalog(alloc)?, reply)?)?,
+        Kind::Record => format!(in alloc;
+            "{:?}",
+            hear_record(
+                alloc,
+                &catalog(alloc)?,
+                &Bytes::from_slice(alloc, &KEY)?,
+                reply
+            )?
+        )?,
+        Kind::Page => format!(in alloc;
+            "{:?}",
+            hear_page(
+                alloc,
+                &catalog(alloc)?,
+                &Bytes::from_slice(alloc, &[4, 0])?,
+                &Bytes::from_slice(alloc, &[4, 1])?,
+                reply
+            )?
+        )?,
         Kind::Store => format!(in alloc; "{:?}", hear_store(reply))?,
         Kind::Numbers => format!(in alloc; "{:?}", hear_numbers(reply))?,
         Kind::Manager => format!(in alloc; "{:?}", hear_manager(reply))?,
@@ -171,7 +207,7 @@ enum Answer {
 }
 
 fn page(alloc: Global, value: &[u8]) -> Result<Reply, Fail> {
-    let key = Bytes::from_slice(alloc, &[4, 1])?;
+    let key = Bytes::from_slice(alloc, &KEY)?;
     let value = Bytes::from_slice(alloc, value)?;
     let mut list = Items::new(alloc);
     list.push(Item {
@@ -179,7 +215,7 @@ fn page(alloc: Global, value: &[u8]) -> Result<Reply, Fail> {
         stamp: 9,
         value,
     })?;
-    Ok(Reply::Store(StoreReply::Items { list, more: true }))
+    Ok(Reply::Store(StoreReply::Items { list, more: false }))
 }
 
 fn reply(alloc: Global, answer: Answer) -> Result<Reply, Fail> {
@@ -230,7 +266,7 @@ fn replies_are_heard_so(rt: HostRuntime) -> Result<(), Fail> {
         (
             Kind::Page,
             Answer::Page(&DELETION),
-            "Some(Page { found: Items { items: [Found { key: Bytes { bytes: [4, 1] }, versions: Versions { versions: Items { items: [Version { tid: 1, row: None }] } } }] }, more: true })",
+            "Some(Page { found: Items { items: [Found { key: Bytes { bytes: [4, 0, 2, 128, 0, 0, 0, 0, 0, 0, 1] }, versions: Versions { versions: Items { items: [Version { tid: 1, row: None }] } } }] }, more: false })",
         ),
         (Kind::Page, Answer::Page(&[2]), "None"),
         (Kind::Store, Answer::Stored(5), "Some(Stored(5))"),

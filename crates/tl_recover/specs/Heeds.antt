@@ -4,17 +4,17 @@ use Rattle.std.specs.List.{list_any}
 use Rattle.tl_base.specs.declared.memory.NoMemory.{NoMemory}
 use Rattle.tl_base.specs.declared.node.NodeSet.{NodeSet}
 use Rattle.tl_base.specs.declared.place.Settings.{Settings}
+use Rattle.tl_schema.specs.declared.catalog.Catalog.{Catalog}
 use Rattle.tl_manager.specs.declared.mark.Mark.{Mark}
 use Rattle.tl_manager.specs.declared.mark.Mark.TheVariants as mark
 use Rattle.tl_manager.specs.declared.mark.TxnStep.{TxnStep}
 use Rattle.tl_manager.specs.declared.mark.TxnStep.TheVariants as step
 use Rattle.tl_manager.specs.declared.request.ManagerReply.TheVariants as manager
 use Rattle.tl_manager.specs.declared.request.Reply.{Reply}
-use Rattle.tl_journal.specs.Ask.{Ask, LoadCommits, Heard, Told, Strange}
-use Rattle.tl_journal.specs.Bytes.{heard}
+use Rattle.tl_journal.specs.Ask.{Ask, Heard, Told, Strange}
 use Rattle.tl_journal.specs.Node.{nodes_in}
 use Rattle.tl_ask.specs.Asked.{asked}
-use Rattle.tl_ask.specs.Hears.{hears_log, hears_manager, hears_record, hears_store}
+use Rattle.tl_ask.specs.Hears.{hears_commits, hears_log, hears_manager, hears_record, hears_store}
 use Rattle.tl_ask.specs.declared.asked.Asked.{Asked}
 use Rattle.tl_recover.specs.declared.after.After.{After}
 use Rattle.tl_recover.specs.declared.phase.Phase.{Phase}
@@ -25,23 +25,23 @@ use Rattle.tl_recover.specs.Taken.{Taken, finding, takes}
 -- ---- by what is awaited
 
 -- a record that is loaded, or else a cell that is stored
-abbrev pub hears_strip : Bool → Option (List ℕ) → Reply → Heard
-hears_strip false (Some key) reply = hears_record reply
-hears_strip false None reply = hears_store reply
-hears_strip true key reply = hears_store reply
+abbrev pub hears_strip : Catalog → Bool → Option (List ℕ) → Reply → Heard
+hears_strip catalog false (Some key) reply = hears_record catalog key reply
+hears_strip catalog false None reply = hears_store reply
+hears_strip catalog true key reply = hears_store reply
 
 abbrev pub hears_finish : Bool → Reply → Heard
-hears_finish false reply = heard LoadCommits reply
+hears_finish false reply = hears_commits reply
 hears_finish true reply = hears_store reply
 
-abbrev pub hears : Phase → Reply → Heard
-hears (phase.Finding node) reply = hears_manager reply
-hears (phase.ReadingLog lost) reply = hears_log reply
-hears (phase.Stripping lost log at loaded) reply = hears_strip loaded (slice_get log.entry.writes at) reply
-hears (phase.Finishing lost committed loaded) reply = hears_finish loaded reply
-hears (phase.EndingLost lost) reply = hears_manager reply
-hears phase.Over reply = Strange
-hears phase.Stopped reply = Strange
+abbrev pub hears : Catalog → Phase → Reply → Heard
+hears catalog (phase.Finding node) reply = hears_manager reply
+hears catalog (phase.ReadingLog lost) reply = hears_log catalog reply
+hears catalog (phase.Stripping lost log at loaded) reply = hears_strip catalog loaded (slice_get log.entry.writes at) reply
+hears catalog (phase.Finishing lost committed loaded) reply = hears_finish loaded reply
+hears catalog (phase.EndingLost lost) reply = hears_manager reply
+hears catalog phase.Over reply = Strange
+hears catalog phase.Stopped reply = Strange
 
 -- the transactions that a manager told of
 abbrev pub orphans_heard : Heard → Option (List ℕ)
@@ -91,15 +91,15 @@ IsAfter settings taken now next (Some (step.NoMemory told)) = (now ≡ phase.Sto
 IsAfter settings taken now next told = (now ≡ taken.phase) × (next ≡ request_of settings taken.ask) × (told ≡ taken.step)
 
 -- what the recovery does with a reply
-abbrev pub taken_by : Recover → Reply → Taken
-taken_by recovery reply = takes recovery.layout recovery.all recovery.phase (hears recovery.phase reply)
+abbrev pub taken_by : Catalog → Recover → Reply → Taken
+taken_by catalog recovery reply = takes recovery.layout recovery.all recovery.phase (hears catalog recovery.phase reply)
 
--- the recovery took the reply, and told this
-pub record IsTaken (old new : Recover) (reply : Reply) (told : Option TxnStep) : Type 0 where
+-- the recovery took the reply, in a database of these tables, and told this
+pub record IsTaken (catalog : Catalog) (old new : Recover) (reply : Reply) (told : Option TxnStep) : Type 0 where
   pub alloc : new.alloc ≡ old.alloc
   pub layout : new.layout ≡ old.layout
   pub all : new.all ≡ old.all
-  pub after : IsAfter old.layout (taken_by old reply) new.phase new.next told
+  pub after : IsAfter old.layout (taken_by catalog old reply) new.phase new.next told
 
 -- a recovery of these nodes that has asked for the transactions of the least one
 pub record IsStarted (settings : Settings) (nodes : NodeSet) (recovery : Recover) : Type 0 where

@@ -1,6 +1,6 @@
 -- What a recovery does with a reply: how far it is then, what it asks next, and what it tells.
-use Rattle.std.specs.Prelude.{ℕ, ◌+◌, ◌^◌, ◌==◌, Bool, true, false, not, ◌||◌, nat_lt, List, [], ◌∷◌, Option, Some, None, filter, slice_get, if◌then◌else◌}
-use Rattle.std.specs.List.{list_all, list_any}
+use Rattle.std.specs.Prelude.{ℕ, ◌+◌, ◌^◌, ◌==◌, Bool, true, false, not, nat_lt, List, [], ◌∷◌, Option, Some, None, filter, slice_get, if◌then◌else◌}
+use Rattle.std.specs.List.{list_any}
 use Rattle.tl_base.specs.declared.node.NodeSet.{NodeSet}
 use Rattle.tl_base.specs.declared.place.Settings.{Settings}
 use Rattle.tl_descriptor.specs.Tids.{has, inserted}
@@ -18,7 +18,6 @@ use Rattle.tl_protocol.specs.Store.{LogCell}
 use Rattle.tl_journal.specs.Ask.{Ask, LoadCommits, StoreCommits, LoadLog, StoreLog, LoadRecord, StoreRecord, AskManager, Heard, Commits, Log, Record, Stored, Moved, Told}
 use Rattle.tl_journal.specs.Bytes.{home_of}
 use Rattle.tl_journal.specs.Node.{nodes_in}
-use Rattle.tl_journal.specs.Served.{is_record_key}
 use Rattle.tl_recover.specs.declared.phase.Lost.{Lost}
 use Rattle.tl_recover.specs.declared.phase.Phase.{Phase}
 use Rattle.tl_recover.specs.declared.phase.Phase.TheVariants as phase
@@ -82,9 +81,9 @@ by_flag lost log flag.Trying = stripping lost log 0
 by_flag lost log flag.Decided = finishing lost true mark.Quiet
 by_flag lost log flag.Undone = finishing lost false mark.Quiet
 
--- the log cell of another transaction, or one that names what is no record
+-- the log cell of another transaction
 abbrev pub is_odd_log : ℕ → LogCell → Bool
-is_odd_log tid log = not (log.entry.tid == tid) || not (list_all is_record_key log.entry.writes)
+is_odd_log tid log = not (log.entry.tid == tid)
 
 abbrev pub takes_log : Lost → Heard → Taken
 takes_log lost (Log None) = finishing lost false mark.Quiet

@@ -2,8 +2,7 @@
 
 ghost use Rattle.std.specs.Prelude.{◌≡◌, true, false};
 ghost use Rattle.tl_journal.specs.Ask.{Commits, LoadCommits, StoreCommits};
-ghost use Rattle.tl_journal.specs.Bytes.{heard};
-ghost use Rattle.tl_ask.specs.Hears.{hears_store};
+ghost use Rattle.tl_ask.specs.Hears.{hears_commits, hears_store};
 ghost use Rattle.tl_recover.specs.declared.phase.Phase.TheVariants as phase;
 ghost use Rattle.tl_recover.specs.Heeds.{Gives, hears_finish, written};
 ghost use Rattle.tl_recover.specs.Taken.{ending, finished_so, finishing, going, takes_finishing};
@@ -104,7 +103,7 @@ fn takes_loaded(
     committed: bool,
     reply: &Reply,
 ) -> Result<After, NoMemory>
-    ensures { Gives layout (takes_finishing layout lost committed false (heard LoadCommits reply.now)) result }
+    ensures { Gives layout (takes_finishing layout lost committed false (hears_commits reply.now)) result }
 {
     match hear_commits(alloc, reply)? {
         Some(cell) => takes_commits(alloc, layout, lost, committed, cell),

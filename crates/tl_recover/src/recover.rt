@@ -16,7 +16,7 @@ use std::mem;
 use tl_ask::{Asked, Layout};
 use tl_base::{NoMemory, NodeId, NodeSet, PlaceId};
 use tl_manager::{Mark, Reply, Request, TxnStep};
-use tl_schema::Setup;
+use tl_schema::{Catalog, Setup};
 
 /// A node's recovery of vanished nodes, one after the other in rising order: it asks, and takes the reply.
 pub struct Recover {
@@ -46,22 +46,23 @@ impl Drop for Recover {
 /// By the phase that the reply was awaited in.
 fn takes(
     alloc: Global,
+    catalog: &Catalog,
     layout: Layout,
     all: NodeSet,
     phase: Phase,
     reply: &Reply,
 ) -> Result<After, NoMemory>
-    ensures { Gives layout (takes layout all phase (hears phase reply.now)) result }
+    ensures { Gives layout (takes layout all phase (hears catalog.now phase reply.now)) result }
 {
     match phase {
         Phase::Finding(node) => takes_finding(alloc, layout, all, node, reply),
-        Phase::ReadingLog(lost) => takes_log(alloc, layout, lost, reply),
+        Phase::ReadingLog(lost) => takes_log(alloc, catalog, layout, lost, reply),
         Phase::Stripping {
             lost,
             log,
             at,
             loaded,
-        } => takes_stripping(alloc, layout, lost, log, at, loaded, reply),
+        } => takes_stripping(alloc, catalog, layout, lost, log, at, loaded, reply),
         Phase::Finishing {
             lost,
             committed,
@@ -121,12 +122,12 @@ impl Recover {
         }
     }
 
-    /// What the reply led to; `None` where no place of a run replies so.
-    pub fn heed(&mut self, reply: &Reply) -> Option<TxnStep>
-        ensures { IsTaken self.old self.new reply.now result }
+    /// What the reply led to, in a database of these tables; `None` where no place of a run replies so.
+    pub fn heed(&mut self, catalog: &Catalog, reply: &Reply) -> Option<TxnStep>
+        ensures { IsTaken catalog.now self.old self.new reply.now result }
     {
         let phase = mem::replace(&mut self.phase, Phase::Stopped);
-        match takes(self.alloc, self.layout, self.all, phase, reply) {
+        match takes(self.alloc, catalog, self.layout, self.all, phase, reply) {
             Ok(After { phase, next, step }) => {
                 self.phase = phase;
                 self.next = next;
@@ -140,12 +141,12 @@ impl Recover {
     }
 
     /// What the reply led to, which a place of a run gave to what was asked.
-    pub fn take(&mut self, reply: &Reply) -> TxnStep
+    pub fn take(&mut self, catalog: &Catalog, reply: &Reply) -> TxnStep
         requires asks { IsSome self.old.next }
-        requires known { IsSome (taken_by self.old reply.now).step }
-        ensures { IsTaken self.old self.new reply.now (Some result) }
+        requires known { IsSome (taken_by catalog.now self.old reply.now).step }
+        ensures { IsTaken catalog.now self.old self.new reply.now (Some result) }
     {
-        self.heed(reply).unwrap()
+        self.heed(catalog, reply).unwrap()
     }
 
     /// All nodes that it was given, whatever was done of them.

@@ -19,6 +19,7 @@ use tl_ask::{
 };
 use tl_base::{Bytes, Duplicate, NoMemory, Tid};
 use tl_manager::{Mark, Reply};
+use tl_schema::Catalog;
 use tl_versions::Versions;
 
 /// The next record that the log cell names is loaded, or the cell is marked where there is none.
@@ -102,19 +103,20 @@ fn takes_marked(alloc: Global, layout: Layout, lost: Lost, reply: &Reply) -> Res
 /// The record at this place was loaded, or the log cell was marked where there is none.
 fn takes_loaded(
     alloc: Global,
+    catalog: &Catalog,
     layout: Layout,
     lost: Lost,
     log: LogCell,
     at: usize,
     reply: &Reply,
 ) -> Result<After, NoMemory>
-    ensures { Gives layout (takes_stripping lost log at false (slice_get log.entry.writes at) (hears_strip false (slice_get log.entry.writes at) reply.now)) result }
+    ensures { Gives layout (takes_stripping lost log at false (slice_get log.entry.writes at) (hears_strip catalog.now false (slice_get log.entry.writes at) reply.now)) result }
 {
     let key = match log.entry.writes.get(at) {
         Some(key) => key,
         None => return takes_marked(alloc, layout, lost, reply),
     };
-    let Some(cell) = hear_record(alloc, reply)? else {
+    let Some(cell) = hear_record(alloc, catalog, key, reply)? else {
         return Ok(strange());
     };
     match ask_without(layout, lost.tid.get(), key, cell)? {
@@ -160,6 +162,7 @@ fn takes_stripped(
 
 pub fn takes_stripping(
     alloc: Global,
+    catalog: &Catalog,
     layout: Layout,
     lost: Lost,
     log: LogCell,
@@ -167,11 +170,11 @@ pub fn takes_stripping(
     loaded: bool,
     reply: &Reply,
 ) -> Result<After, NoMemory>
-    ensures { Gives layout (takes_stripping lost log at loaded (slice_get log.entry.writes at) (hears_strip loaded (slice_get log.entry.writes at) reply.now)) result }
+    ensures { Gives layout (takes_stripping lost log at loaded (slice_get log.entry.writes at) (hears_strip catalog.now loaded (slice_get log.entry.writes at) reply.now)) result }
 {
     if loaded {
         takes_stripped(alloc, layout, lost, log, at, reply)
     } else {
-        takes_loaded(alloc, layout, lost, log, at, reply)
+        takes_loaded(alloc, catalog, layout, lost, log, at, reply)
     }
 }

@@ -1,11 +1,12 @@
 -- What a reply is taken for in each case, where a transaction stores its versions or removes them.
-use Rattle.std.proofs.Common.{◌≡◌, ℕ, ◌+◌, ◌≤◌, ◌<◌, Bool, true, false, List, [], ◌∷◌, Option, Some, None, refl, sym, ap}
+use Rattle.std.proofs.Common.{◌≡◌, ℕ, ◌+◌, ◌≤◌, ◌<◌, Bool, true, false, List, [], ◌∷◌, Option, Some, None, refl, sym, ap, subst}
 use Rattle.std.specs.Prelude.{slice_get}
 use Rattle.tl_base.specs.declared.place.Settings.{Settings}
 use Rattle.tl_manager.specs.declared.mark.Mark.{Mark}
 use Rattle.tl_manager.specs.declared.mark.Mark.TheVariants as mark
 use Rattle.tl_manager.specs.declared.request.ManagerRequest.TheVariants as request
 use Rattle.tl_manager.specs.declared.request.Reply.{Reply}
+use Rattle.tl_schema.specs.declared.catalog.Catalog.{Catalog}
 use Rattle.tl_versions.specs.Versions.{is_written, stranger, strip}
 use Rattle.tl_write.specs.declared.write.Write.{Write}
 use Rattle.tl_protocol.specs.Store.{Cell}
@@ -25,34 +26,34 @@ use Rattle.tl_txn.specs.declared.phase.Storing.{Storing}
 
 -- ---- by what is in hand
 
-pub hears_loaded : (takes : Bool → Option Write → Heard → Taken) (b : Bool) (w : Option Write) (reply : Reply) (g : Heard) → b ≡ true
-    → hears_store reply ≡ g → takes b w (hears_own b w reply) ≡ takes true w g
-hears_loaded takes true w reply g e h = ap (takes true w) h
-hears_loaded takes false w reply g e h = absurd cc
+pub hears_loaded : (catalog : Catalog) (takes : Bool → Option Write → Heard → Taken) (b : Bool) (w : Option Write) (reply : Reply) (g : Heard) → b ≡ true
+    → hears_store reply ≡ g → takes b w (hears_own catalog b w reply) ≡ takes true w g
+hears_loaded catalog takes true w reply g e h = ap (takes true w) h
+hears_loaded catalog takes false w reply g e h = absurd cc
 
-pub hears_last : (takes : Bool → Option Write → Heard → Taken) (b : Bool) (w : Option Write) (reply : Reply) (g : Heard) → b ≡ false → w ≡ None
-    → hears_store reply ≡ g → takes b w (hears_own b w reply) ≡ takes false None g
-hears_last takes false None reply g e n h = ap (takes false None) h
-hears_last takes false (Some o) reply g e n h = absurd cc
-hears_last takes true w reply g e n h = absurd cc
+pub hears_last : (catalog : Catalog) (takes : Bool → Option Write → Heard → Taken) (b : Bool) (w : Option Write) (reply : Reply) (g : Heard) → b ≡ false → w ≡ None
+    → hears_store reply ≡ g → takes b w (hears_own catalog b w reply) ≡ takes false None g
+hears_last catalog takes false None reply g e n h = ap (takes false None) h
+hears_last catalog takes false (Some o) reply g e n h = absurd cc
+hears_last catalog takes true w reply g e n h = absurd cc
 
-pub hears_unloaded : (takes : Bool → Option Write → Heard → Taken) (b : Bool) (w : Option Write) (o : Write) (reply : Reply) (g : Heard) → b ≡ false
-    → w ≡ Some o → hears_record reply ≡ g → takes b w (hears_own b w reply) ≡ takes false w g
-hears_unloaded takes false (Some x) o reply g e n h = ap (takes false (Some x)) h
-hears_unloaded takes false None o reply g e n h = absurd cc
-hears_unloaded takes true w o reply g e n h = absurd cc
+pub hears_unloaded : (catalog : Catalog) (takes : Bool → Option Write → Heard → Taken) (b : Bool) (w : Option Write) (o : Write) (reply : Reply) (g : Heard) → b ≡ false
+    → w ≡ Some o → hears_record catalog o.key reply ≡ g → takes b w (hears_own catalog b w reply) ≡ takes false w g
+hears_unloaded catalog takes false w o reply g e n h =
+    subst (λ (v : Option Write). takes false v (hears_own catalog false v reply) ≡ takes false v g) (sym n) (ap (takes false (Some o)) h)
+hears_unloaded catalog takes true w o reply g e n h = absurd cc
 
-pub storing_told : (s : Storing) (b : Bool) (w : Option Write) (o : Write) (reply : Reply) → b ≡ false → w ≡ Some o
-    → IsTold (takes_storing s b w (hears_own b w reply)).step mark.Quiet
-storing_told s false (Some x) o reply e n = loading_told s x (hears_record reply)
-storing_told s false None o reply e n = absurd cc
-storing_told s true w o reply e n = absurd cc
+pub storing_told : (catalog : Catalog) (s : Storing) (b : Bool) (w : Option Write) (o : Write) (reply : Reply) → b ≡ false → w ≡ Some o
+    → IsTold (takes_storing s b w (hears_own catalog b w reply)).step mark.Quiet
+storing_told catalog s false (Some x) o reply e n = loading_told s x (hears_record catalog x.key reply)
+storing_told catalog s false None o reply e n = absurd cc
+storing_told catalog s true w o reply e n = absurd cc
 
-pub stripping_told : (r : Removing) (b : Bool) (w : Option Write) (o : Write) (reply : Reply) → b ≡ false → w ≡ Some o
-    → IsTold (takes_removing r b w (hears_own b w reply)).step mark.Quiet
-stripping_told r false (Some x) o reply e n = removing_told r x (hears_record reply)
-stripping_told r false None o reply e n = absurd cc
-stripping_told r true w o reply e n = absurd cc
+pub stripping_told : (catalog : Catalog) (r : Removing) (b : Bool) (w : Option Write) (o : Write) (reply : Reply) → b ≡ false → w ≡ Some o
+    → IsTold (takes_removing r b w (hears_own catalog b w reply)).step mark.Quiet
+stripping_told catalog r false (Some x) o reply e n = removing_told r x (hears_record catalog x.key reply)
+stripping_told catalog r false None o reply e n = absurd cc
+stripping_told catalog r true w o reply e n = absurd cc
 
 -- ---- it stores its versions
 

@@ -12,7 +12,6 @@ use Rattle.tl_journal.specs.Ask.{Found, Heard, Record, Page}
 use Rattle.tl_journal.specs.Reads as law
 use Rattle.tl_journal.specs.Reads.{Reads, after_read, range_left, rows_found}
 use Rattle.tl_journal.specs.Takes.{after_reply}
-use Rattle.tl_ask.specs.Thin.{thin_read}
 use Rattle.tl_txn.specs.Follows.{ReadEnds, ReadGoes, law_read}
 use Rattle.tl_txn.specs.Taken.{next_page, takes_reading, with_rows}
 use Rattle.tl_txn.specs.declared.phase.Open.{Open}
@@ -50,7 +49,7 @@ page_goes live reads left (law.Range shard from first before ∷ []) rows mark h
       phase_is = refl;
       finds = record { tid_is = refl; snapshot_is = refl; own_is = refl; rows_are = refl };
       after_is = refl;
-      thin_is = refl;
+      range_is = refl;
       ask_is = refl;
     }
 page_goes live reads left (law.Range shard from first before ∷ (other ∷ more)) rows mark h e = absurd h
@@ -61,7 +60,7 @@ pub read_goes : (settings : Settings) (live : Open) (r : Read) (reads : Reads) (
 read_goes settings live (read.Range r) reads left (Page found more) mark e =
     page_goes live reads left (range_left settings.shards r.shard r.from r.first r.before more found) (rows_found live.snapshot found) mark
     (left_of_range settings.shards r more found) e
-read_goes settings live read.Point reads left (Record cell) mark e = cc
+read_goes settings live (read.Point key) reads left (Record cell) mark e = cc
 read_goes settings live r reads left heard mark e = cc
 
 page_ends : (live : Open) (reads : Reads) (left more : List law.Read) (rows : List (List Value)) (mark : Mark)
@@ -85,7 +84,7 @@ pub read_ends : (settings : Settings) (live : Open) (r : Read) (reads : Reads) (
     → ReadEnds live reads left (after_reply settings live.snapshot reads (law_read r ∷ left) heard) (takes_reading settings live r heard) mark
 read_ends settings live (read.Range r) reads left (Page found more) mark e =
     page_ends live reads left (range_left settings.shards r.shard r.from r.first r.before more found) (rows_found live.snapshot found) mark e
-read_ends settings live read.Point reads left (Record cell) mark e =
+read_ends settings live (read.Point key) reads left (Record cell) mark e =
     record {
       next_live = with_rows live (option_to_list (row_shown live.snapshot cell.versions));
       found = option_to_list (row_shown live.snapshot cell.versions);
@@ -106,13 +105,5 @@ pub read_stops : (settings : Settings) (live : Open) (r : Read) (reads : Reads) 
     → (takes_reading settings live r heard).step ≡ None → after_reply settings live.snapshot reads (law_read r ∷ left) heard ≡ None
 read_stops settings live (read.Range r) reads left (Page found more) e =
     absurd (page_stops (with_rows live (rows_found live.snapshot found)) (range_left settings.shards r.shard r.from r.first r.before more found) (left_of_range settings.shards r more found) e)
-read_stops settings live read.Point reads left (Record cell) e = cc
+read_stops settings live (read.Point key) reads left (Record cell) e = cc
 read_stops settings live r reads left heard e = refl
-
--- after a reply the reads depend on no key of a record
-pub reads_thin : (settings : Settings) (snapshot : TidSet) (reads : Reads) (left : List law.Read) (heard : Heard)
-    → after_reply settings snapshot reads (thin_read left) heard ≡ after_reply settings snapshot reads left heard
-reads_thin settings snapshot reads [] heard = refl
-reads_thin settings snapshot reads (law.Point key ∷ left) (Record cell) = refl
-reads_thin settings snapshot reads (law.Point key ∷ left) heard = refl
-reads_thin settings snapshot reads (law.Range shard from first before ∷ left) heard = refl

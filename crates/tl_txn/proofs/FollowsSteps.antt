@@ -1,6 +1,7 @@
 -- What a transaction hears, and which steps it makes: no scan of an index, and no want of memory.
 use Rattle.std.proofs.Common.{ℕ, ◌+◌, ◌^◌, Bool, true, false, List, [], ◌∷◌, Option, Some, None}
-use Rattle.std.specs.Prelude.{not, ◌&&◌, nat_le, slice_get}
+use Rattle.std.specs.Prelude.{not, ◌&&◌, nat_le, slice_get, if◌then◌else◌}
+use Rattle.tl_schema.specs.declared.catalog.Catalog.{Catalog}
 use Rattle.tl_base.specs.declared.place.Settings.{Settings}
 use Rattle.tl_base.specs.declared.store.StoreReply.TheVariants as answered
 use Rattle.tl_descriptor.specs.Reading.{read_set}
@@ -16,12 +17,13 @@ use Rattle.tl_manager.specs.declared.request.Reply.TheVariants as reply
 use Rattle.tl_versions.specs.Versions.{is_written, stranger}
 use Rattle.tl_write.specs.declared.write.Write.{Write}
 use Rattle.tl_protocol.specs.Store.{Cell, CommitsCell}
-use Rattle.tl_journal.specs.Ask.{LoadCommits, StoreCommits, AskManager, Heard, Commits, Record, Page, Stored, Moved, Numbers, Told}
+use Rattle.tl_journal.specs.Ask.{LoadCommits, StoreCommits, AskManager, Heard, Commits, Record, Page, Stored, Moved, Numbers, Told, Strange}
 use Rattle.tl_journal.specs.Bytes.{commits_in, heard, home_of}
 use Rattle.tl_journal.specs.Reads as law
 use Rattle.tl_journal.specs.Reads.{range_left, rows_found}
 use Rattle.tl_txn.specs.Attempt.{Attempt}
 use Rattle.tl_txn.specs.Follows.{IsOfCommits, MayHear}
+use Rattle.tl_ask.specs.Hears.{hears_commits}
 use Rattle.tl_txn.specs.Hears.{hears}
 use Rattle.tl_txn.specs.Taken as code
 use Rattle.tl_txn.specs.Taken.{Taken, takes, unless_odd}
@@ -62,7 +64,7 @@ page live (law.Point key ∷ more) = tt
 page live (law.Range shard from first before ∷ more) = tt
 
 reading : (settings : Settings) (live : Open) (r : Read) (heard : Heard) → IsOwnStep (code.takes_reading settings live r heard).step
-reading settings live read.Point (Record cell) = tt
+reading settings live (read.Point key) (Record cell) = tt
 reading settings live (read.Range r) (Page found more) = page (code.with_rows live (rows_found live.snapshot found)) (range_left settings.shards r.shard r.from r.first r.before more found)
 reading settings live r heard = tt
 
@@ -141,11 +143,15 @@ set_heard : (stamp : ℕ) (set : Option TidSet) → IsOfCommits (commits_in stam
 set_heard stamp None = tt
 set_heard stamp (Some set) = tt
 
-pub commits_heard : (reply : Reply) → IsOfCommits (heard LoadCommits reply)
-commits_heard (reply.Store (answered.Cell stamp value)) = set_heard stamp (read_set value)
+where_so : (b : Bool) (h : Heard) → IsOfCommits h → IsOfCommits (if b then h else Strange)
+where_so true h is = is
+where_so false h is = tt
+
+pub commits_heard : (reply : Reply) → IsOfCommits (hears_commits reply)
+commits_heard (reply.Store (answered.Cell stamp value)) = where_so _ _ (set_heard stamp (read_set value))
 commits_heard (reply.Store told) = tt
 commits_heard (reply.Manager told) = tt
 
-pub may_hear : (kept : Phase) (reply : Reply) → MayHear kept (hears kept reply)
-may_hear (phase.TryingNothing live) reply = commits_heard reply
-may_hear kept reply = tt
+pub may_hear : (catalog : Catalog) (kept : Phase) (reply : Reply) → MayHear kept (hears catalog kept reply)
+may_hear catalog (phase.TryingNothing live) reply = commits_heard reply
+may_hear catalog kept reply = tt

@@ -19,7 +19,7 @@ use Rattle.tl_txn.specs.NodeReads.{Awaits, NodeReadEnds, NodeReadGoes, NodeReadS
 use Rattle.tl_txn.specs.Taken.{takes_reading}
 use Rattle.tl_txn.specs.declared.phase.Open.{Open}
 use Rattle.tl_txn.specs.declared.phase.Read.{Read}
-use Rattle.tl_txn.proofs.FollowsReads.{read_ends, read_goes, read_stops, reads_thin}
+use Rattle.tl_txn.proofs.FollowsReads.{read_ends, read_goes, read_stops}
 
 module _ (settings : Settings) (catalog : Catalog) (node : Node) (statement : Bound) (t : Txn) (told : Answer) where
   -- what the node does with the reads after a reply
@@ -47,9 +47,8 @@ module _ (settings : Settings) (catalog : Catalog) (node : Node) (statement : Bo
     -- the node's reads after the reply are those that the transaction knows of
     same_after : after_reply settings t.snapshot reads reads.left heard ≡ after_reply settings live.snapshot reads (law_read r ∷ left) heard
     same_after =
-        sym (reads_thin settings t.snapshot reads reads.left heard)
-        ∙ (ap (λ (l : List law.Read). after_reply settings t.snapshot reads l heard) h.left_are
-        ∙ ap (λ (seen : TidSet). after_reply settings seen reads (law_read r ∷ left) heard) (sym h.snapshot_is))
+        ap (λ (l : List law.Read). after_reply settings t.snapshot reads l heard) h.left_are
+        ∙ ap (λ (seen : TidSet). after_reply settings seen reads (law_read r ∷ left) heard) (sym h.snapshot_is)
 
     pub node_read_goes : (mark : Mark) → (takes_reading settings live r heard).step ≡ Some (step.Going mark)
         → NodeReadGoes settings catalog node statement t reads live left heard told (takes_reading settings live r heard) mark
@@ -67,7 +66,7 @@ module _ (settings : Settings) (catalog : Catalog) (node : Node) (statement : Bo
           rows_are = refl;
           later_are = refl;
           earlier_are = refl;
-          awaits = record { snapshot_is = g.finds.snapshot_is ∙ h.snapshot_is; left_are = g.thin_is };
+          awaits = record { snapshot_is = g.finds.snapshot_is ∙ h.snapshot_is; left_are = ap (λ (x : law.Read). x ∷ left) g.range_is };
           takes_is = taken_left reads reads.left heard ∙ goes_some _ _ after_is;
           ask_is = sym g.ask_is;
           says_is = ap (λ (after : Option Reads). says_read node statement t after told) after_is;

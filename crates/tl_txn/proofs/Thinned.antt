@@ -16,7 +16,7 @@ use Rattle.tl_journal.specs.Reads.{Read, Point, Range, Reads}
 use Rattle.tl_journal.specs.Says.{says_doing, says_finishing, says_read}
 use Rattle.tl_journal.specs.Strange.{is_odd_for}
 use Rattle.tl_journal.specs.Takes.{after_reply, takes_doing, takes_finishing, takes_read, takes_removing, takes_storing, takes_stripping}
-use Rattle.tl_ask.specs.Thin.{nothing_finished, nothing_loaded, thin, thin_read}
+use Rattle.tl_ask.specs.Thin.{nothing_finished, nothing_loaded, thin}
 use Rattle.tl_txn.specs.Thinned.{DoesThin, thinned}
 
 module _ (settings : Settings) (catalog : Catalog) (commits : List Committed) (node : Node) (statement : Bound) (heard : Heard) (told : Answer) where
@@ -32,22 +32,6 @@ module _ (settings : Settings) (catalog : Catalog) (commits : List Committed) (n
   }
 
 module _ (settings : Settings) (catalog : Catalog) (node : Node) (statement : Bound) (told : Answer) where
-  reading_takes : (t : Txn) (reads : Reads) (left : List Read) (heard : Heard)
-      → takes_read settings catalog node statement t (record reads { left = left }) heard told ≡ takes_read settings catalog node statement t (record reads { left = thin_read left }) heard told
-  reading_takes t reads [] heard = refl
-  reading_takes t reads (Point key ∷ []) (Record cell) = refl
-  reading_takes t reads (Point key ∷ (read ∷ left)) (Record cell) = refl
-  reading_takes t reads (Point key ∷ left) heard = refl
-  reading_takes t reads (Range shard from first before ∷ left) heard = refl
-
-  reads_after : (snapshot : TidSet) (reads : Reads) (left : List Read) (heard : Heard)
-      → after_reply settings snapshot (record reads { left = left }) left heard ≡ after_reply settings snapshot (record reads { left = thin_read left }) (thin_read left) heard
-  reads_after snapshot reads [] heard = refl
-  reads_after snapshot reads (Point key ∷ []) (Record cell) = refl
-  reads_after snapshot reads (Point key ∷ (read ∷ left)) (Record cell) = refl
-  reads_after snapshot reads (Point key ∷ left) heard = refl
-  reads_after snapshot reads (Range shard from first before ∷ left) heard = refl
-
   storing_takes : (s : Storing) (l : Loaded) (left : List Write) (heard : Heard)
       → takes_storing node s (Some l) left heard ≡ takes_storing node s (Some nothing_loaded) left heard
   storing_takes s l (o ∷ left) (Stored stamp) = refl
@@ -89,9 +73,7 @@ module _ (settings : Settings) (catalog : Catalog) (commits : List Committed) (n
   does_thin (Drawing seen) heard told = does_alike settings catalog commits node statement heard told (Drawing seen) refl refl refl
   does_thin (Bringing seen low) heard told = does_alike settings catalog commits node statement heard told (Bringing seen low) refl refl refl
   does_thin (Inside t) heard told = does_alike settings catalog commits node statement heard told (Inside t) refl refl refl
-  does_thin (Reading t reads) heard told =
-      does_alike settings catalog commits node statement heard told (Reading t reads) (reading_takes settings catalog node statement told t reads reads.left heard)
-      (ap (λ (after : Option Reads). says_read node statement t after told) (reads_after settings catalog node statement told t.snapshot reads reads.left heard)) refl
+  does_thin (Reading t reads) heard told = does_alike settings catalog commits node statement heard told (Reading t reads) refl refl refl
   does_thin (Trying t) heard told = does_alike settings catalog commits node statement heard told (Trying t) refl refl refl
   does_thin (Stores s None) heard told = does_alike settings catalog commits node statement heard told (Stores s None) refl refl refl
   does_thin (Stores s (Some l)) heard told =

@@ -43,9 +43,9 @@ pub closing_told : (settings : Settings) (node tid : ℕ) (d : Decision) (h : He
 closing_told settings node tid d (Commits c) = unless_odd_told (has c.finished tid) _ mark.Quiet refl
 closing_told settings node tid d h = tt
 
-pub point_told : (settings : Settings) (live : Open) (h : Heard) → IsTold (takes_reading settings live read.Point h).step mark.Quiet
-point_told settings live (Record cell) = refl
-point_told settings live h = tt
+pub point_told : (settings : Settings) (live : Open) (key : List ℕ) (h : Heard) → IsTold (takes_reading settings live (read.Point key) h).step mark.Quiet
+point_told settings live key (Record cell) = refl
+point_told settings live key h = tt
 
 pub next_page_told : (live : Open) (left : List law.Read) → IsTold (next_page live left).step mark.Quiet
 next_page_told live [] = refl

@@ -24,7 +24,7 @@ IsReady other = ⊥
 -- ---- read
 
 abbrev pub awaited : law.Read → Read
-awaited (law.Point key) = read.Point
+awaited (law.Point key) = read.Point key
 awaited (law.Range shard from first before) = read.Range (record { shard = shard; from = from; first = first; before = before })
 
 abbrev pub ask_read : law.Read → Ask

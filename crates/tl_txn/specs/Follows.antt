@@ -33,7 +33,8 @@ use Rattle.tl_journal.specs.Reads.{Reads, after_read, read_of, table_key}
 use Rattle.tl_journal.specs.Says.{says_begun, says_doing, statement_number}
 use Rattle.tl_journal.specs.Strange.{is_odd_for, is_stopped}
 use Rattle.tl_journal.specs.Takes.{after_reply, answered, begins, learnt, takes_doing, with_doing}
-use Rattle.tl_ask.specs.Thin.{thin, thin_read}
+use Rattle.tl_ask.specs.Hears.{hears_commits}
+use Rattle.tl_ask.specs.Thin.{thin}
 use Rattle.tl_txn.specs.Attempt.{Attempt, entry_of}
 use Rattle.tl_txn.specs.Calls.{ask_read, attempt_of, awaited}
 use Rattle.tl_txn.specs.Doing.{decided, doing_of, txn_in}
@@ -178,20 +179,20 @@ StepsSo = (settings : Settings) (number : ℕ) (phase : Phase) (heard : Heard) (
 
 -- what a reply says in a phase may be heard there
 abbrev pub HearsSo : Type 0
-HearsSo = (phase : Phase) (reply : Reply) → MayHear phase (hears phase reply)
+HearsSo = (catalog : Catalog) (phase : Phase) (reply : Reply) → MayHear phase (hears catalog phase reply)
 
 -- who asked for the finished transactions hears of them, or nothing that a place of a run replies
 abbrev pub HearsCommits : Type 0
-HearsCommits = (reply : Reply) → IsOfCommits (heard LoadCommits reply)
+HearsCommits = (reply : Reply) → IsOfCommits (hears_commits reply)
 
 abbrev pub HearsStores : Type 0
 HearsStores = (stamp : ℕ) (log : LogEntry) (reply : Reply) → IsOfStore (heard (StoreLog stamp log) reply)
 
 -- ---- what it reads
 
--- as the law has it, but for the key of a record
+-- as the law has it
 abbrev pub law_read : Read → law.Read
-law_read read.Point = law.Point []
+law_read (read.Point key) = law.Point key
 law_read (read.Range r) = law.Range r.shard r.from r.first r.before
 
 -- its transaction is the same, and its last read has found these rows behind the earlier ones
@@ -211,7 +212,7 @@ pub record ReadGoes (live : Open) (reads : Reads) (left : List law.Read) (after 
   pub phase_is : taken.phase ≡ phase.Reading next_live next_read
   pub finds : HasFound live next_live found
   pub after_is : after ≡ Some (record reads { left = range ∷ left; rows = reads.rows ++ found })
-  pub thin_is : thin_read (range ∷ left) ≡ law_read next_read ∷ left
+  pub range_is : range ≡ law_read next_read
   pub ask_is : taken.ask ≡ Some (asks_read (range ∷ left))
 
 -- it is done
@@ -243,11 +244,6 @@ abbrev pub ReadsNeverEnd : Type 0
 ReadsNeverEnd = (settings : Settings) (live : Open) (r : Read) (heard : Heard) (mark : Mark)
     → (takes_reading settings live r heard).step ≡ Some (step.Ended mark) → ⊥
 
--- after a reply the reads depend on no key of a record
-abbrev pub ReadsThin : Type 0
-ReadsThin = (settings : Settings) (snapshot : TidSet) (reads : Reads) (left : List law.Read) (heard : Heard)
-    → after_reply settings snapshot reads (thin_read left) heard ≡ after_reply settings snapshot reads left heard
-
 -- ---- how each of these begins
 
 -- what a transaction that is ready reads first for an access to a table, and what it asks for that
@@ -256,7 +252,7 @@ first_page number low high =
     read.Range (record { shard = 0; from = table_key number low; first = table_key number low; before = table_key number high })
 
 abbrev pub first_read : ℕ → Access → Read
-first_read number (access.Point key) = read.Point
+first_read number (access.Point key) = read.Point (table_key number key)
 first_read number (access.KeyRange low high) = first_page number low high
 first_read number (access.IndexRange index low high) = first_page number (1 ∷ []) (4 ∷ [])
 first_read number access.Whole = first_page number (1 ∷ []) (4 ∷ [])
@@ -270,7 +266,7 @@ first_ask number access.Whole = ReadPage 0 (table_key number (1 ∷ [])) (table_
 -- the read that a node has it make is the first one that is left to the node
 pub record StartsRead (wanted : law.Read) (left : List law.Read) (asked : Ask) (begun : Read) : Type 0 where
   pub ask_is : asks_read (wanted ∷ left) ≡ asked
-  pub thin_is : thin_read (wanted ∷ left) ≡ law_read begun ∷ left
+  pub wanted_is : wanted ≡ law_read begun
 
 abbrev pub StartsReads : Type 0
 StartsReads = (wanted : law.Read) (left : List law.Read) → StartsRead wanted left (ask_read wanted) (awaited wanted)

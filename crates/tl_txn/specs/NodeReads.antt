@@ -16,7 +16,6 @@ use Rattle.tl_journal.specs.Reads as law
 use Rattle.tl_journal.specs.Reads.{Reads, after_read}
 use Rattle.tl_journal.specs.Says.{says_read}
 use Rattle.tl_journal.specs.Takes.{after_reply, goes_on, stopped, takes_read, with_doing}
-use Rattle.tl_ask.specs.Thin.{thin_read}
 use Rattle.tl_txn.specs.Follows.{HasFound, law_read}
 use Rattle.tl_txn.specs.Taken.{Taken, takes_reading}
 use Rattle.tl_txn.specs.declared.phase.Open.{Open}
@@ -26,7 +25,7 @@ use Rattle.tl_txn.specs.declared.phase.Read.{Read}
 -- the transaction awaits the reply to the first read that is left to its node, and these are left behind it
 pub record Awaits (t : Txn) (reads : Reads) (live : Open) (r : Read) (left : List law.Read) : Type 0 where
   pub snapshot_is : live.snapshot ≡ t.snapshot
-  pub left_are : thin_read reads.left ≡ law_read r ∷ left
+  pub left_are : reads.left ≡ law_read r ∷ left
 
 -- the read goes on: both have found these rows more
 pub record NodeReadGoes (settings : Settings) (catalog : Catalog) (node : Node) (statement : Bound) (t : Txn) (reads : Reads) (live : Open) (left : List law.Read) (heard : Heard) (told : Answer) (taken : Taken) (marked : Mark) : Type 0 where

@@ -94,7 +94,7 @@ next_page live (law.Range shard from first before ∷ left) =
     going (phase.Reading live (read.Range (record { shard = shard; from = from; first = first; before = before }))) (ReadPage shard from before) mark.Quiet
 
 abbrev pub takes_reading : Settings → Open → Read → Heard → Taken
-takes_reading settings live read.Point (Record cell) =
+takes_reading settings live (read.Point key) (Record cell) =
     ready (with_rows live (option_to_list (row_shown live.snapshot cell.versions))) mark.Quiet
 takes_reading settings live (read.Range r) (Page found more) =
     next_page (with_rows live (rows_found live.snapshot found)) (range_left settings.shards r.shard r.from r.first r.before more found)

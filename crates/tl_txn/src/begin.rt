@@ -3,19 +3,18 @@
 ghost use Rattle.std.specs.Prelude.{◌≡◌, IfOk, ◌^◌, nat_le, ◌&&◌, not};
 ghost use Rattle.std.specs.Option.{option_copied};
 ghost use Rattle.tl_ask.specs.Asked.{asked};
-ghost use Rattle.tl_ask.specs.Hears.{commits_or_strange, hears_manager, numbers_or_strange, told_or_strange};
+ghost use Rattle.tl_ask.specs.Hears.{commits_or_strange, hears_begin, hears_commits, hears_manager, hears_numbers, numbers_or_strange, told_or_strange};
 ghost use Rattle.tl_descriptor.specs.Tids.{has};
 ghost use Rattle.tl_manager.specs.declared.mark.Mark.TheVariants as mark;
 ghost use Rattle.tl_txn.specs.After.{IsTaken};
-ghost use Rattle.tl_txn.specs.Hears.{hears_commits, hears_numbers};
 ghost use Rattle.tl_txn.specs.Taken.{ask_begin, opened, ready, takes_asking, takes_bringing, takes_drawing, takes_noted, unless_odd};
 
 use crate::after::After;
 use crate::phase::{Open, Phase};
 use std::alloc::Global;
 use tl_ask::{
-    Asked, CommitsCell, Layout, TxnId, ask_manager, draw_numbers, hear_commits, hear_manager,
-    hear_numbers,
+    Asked, CommitsCell, Layout, TxnId, ask_manager, draw_numbers, hear_begin, hear_commits,
+    hear_manager, hear_numbers,
 };
 use tl_base::{NoMemory, NodeId, Tid};
 use tl_descriptor::Descriptor;
@@ -67,9 +66,10 @@ pub fn hear_noted(
     seen: Descriptor,
     reply: &Reply,
 ) -> After
-    ensures { IsTaken layout (takes_noted layout node seen (hears_manager reply.now)) result }
+    ensures { IsTaken layout (takes_noted layout node seen (hears_begin seen reply.now)) result }
 {
-    take_noted(alloc, layout, node, seen, hear_manager(reply))
+    let told = hear_begin(&seen, reply);
+    take_noted(alloc, layout, node, seen, told)
 }
 
 fn take_noted(

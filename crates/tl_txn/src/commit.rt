@@ -27,6 +27,7 @@ use tl_ask::{
 };
 use tl_base::{Duplicate, NoMemory, Tid};
 use tl_manager::{Mark, Reply};
+use tl_schema::Catalog;
 use tl_versions::{Version, Versions};
 use tl_write::Write;
 
@@ -87,16 +88,22 @@ fn ask_store(alloc: Global, layout: Layout, storing: &mut Storing) -> Result<Ask
     )
 }
 
-pub fn hear_storing(alloc: Global, layout: Layout, storing: Storing, reply: &Reply) -> After
-    ensures { IsTaken layout (takes_storing storing storing.loaded (slice_get storing.attempt.own storing.stored) (hears_own storing.loaded (slice_get storing.attempt.own storing.stored) reply.now)) result }
+pub fn hear_storing(
+    alloc: Global,
+    catalog: &Catalog,
+    layout: Layout,
+    storing: Storing,
+    reply: &Reply,
+) -> After
+    ensures { IsTaken layout (takes_storing storing storing.loaded (slice_get storing.attempt.own storing.stored) (hears_own catalog.now storing.loaded (slice_get storing.attempt.own storing.stored) reply.now)) result }
 {
     if storing.loaded {
         return take_stored(alloc, layout, storing, hear_store(reply));
     }
-    if storing.stored >= storing.attempt.len() {
+    let Some(own) = storing.attempt.own_at(storing.stored) else {
         return take_decided(alloc, layout, storing, hear_store(reply));
-    }
-    match hear_record(alloc, reply) {
+    };
+    match hear_record(alloc, catalog, &own.key, reply) {
         Ok(cell) => take_loaded(alloc, layout, storing, cell),
         Err(NoMemory) => After::out(Mark::Quiet),
     }

@@ -3,11 +3,11 @@
 ghost use Rattle.std.specs.Prelude.{◌≡◌, IfOk, true, false};
 ghost use Rattle.std.specs.Option.{option_copied};
 ghost use Rattle.tl_ask.specs.Asked.{asked};
-ghost use Rattle.tl_ask.specs.Hears.{commits_or_strange, hears_manager, store_or_strange, told_or_strange};
+ghost use Rattle.tl_ask.specs.Hears.{commits_or_strange, hears_commits, hears_manager, store_or_strange, told_or_strange};
 ghost use Rattle.tl_descriptor.specs.Tids.{inserted};
 ghost use Rattle.tl_journal.specs.Ask.{LoadCommits, StoreCommits};
 ghost use Rattle.tl_txn.specs.After.{IsTaken};
-ghost use Rattle.tl_txn.specs.Hears.{hears_closing, hears_commits};
+ghost use Rattle.tl_txn.specs.Hears.{hears_closing};
 ghost use Rattle.tl_txn.specs.Taken.{closing, finished_as, finishes, going, takes_closing, takes_ending, takes_giving_up, takes_trying_nothing};
 
 use crate::after::After;

@@ -1,4 +1,4 @@
-ghost use Rattle.tl_txn.specs.Follows.{BeginsSo, CommitsAtOnce, CommitsNothing, EndsSo, GivesUp, GoesOn, HearsCommits, HearsSo, HearsStores, KeepsSo, ReadsAll, ReadsNeverEnd, ReadsOn, ReadsStop, ReadsThin, StartsAccesses, StartsCommits, StartsReads, StepsSo, StopsSo, TellsSo};
+ghost use Rattle.tl_txn.specs.Follows.{BeginsSo, CommitsAtOnce, CommitsNothing, EndsSo, GivesUp, GoesOn, HearsCommits, HearsSo, HearsStores, KeepsSo, ReadsAll, ReadsNeverEnd, ReadsOn, ReadsStop, StartsAccesses, StartsCommits, StartsReads, StepsSo, StopsSo, TellsSo};
 ghost use Rattle.tl_txn.specs.NodeReads.{NodeReadsAll, NodeReadsOn, NodeReadsStop};
 ghost use Rattle.tl_txn.specs.Thinned.{DoThin};
 
@@ -19,7 +19,6 @@ pub fn transactions_follow_the_node()
     ensures reads_all { ReadsAll }
     ensures reads_stop { ReadsStop }
     ensures reads_never_end { ReadsNeverEnd }
-    ensures reads_thin { ReadsThin }
     ensures node_reads_on { NodeReadsOn }
     ensures node_reads_all { NodeReadsAll }
     ensures node_reads_stop { NodeReadsStop }

@@ -28,8 +28,8 @@ pub struct PageRead {
 /// A read whose reply is awaited.
 #[derive(Drop)]
 pub enum Read {
-    /// The cell of one record.
-    Point,
+    /// The cell of the record under this key.
+    Point(Bytes),
     Range(PageRead),
 }
 

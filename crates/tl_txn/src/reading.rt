@@ -20,28 +20,36 @@ use tl_ask::{Asked, Found, Layout, Page, RecordCell, hear_page, hear_record, rea
 use tl_base::{Bytes, Duplicate, Items, NoMemory};
 use tl_descriptor::Descriptor;
 use tl_manager::{Mark, Reply};
+use tl_schema::Catalog;
 use tl_values::{Row, Rows, copy_row};
 use tl_versions::Versions;
 
-pub fn hear_reading(alloc: Global, layout: Layout, live: Open, read: Read, reply: &Reply) -> After
-    ensures { IsTaken layout (takes_reading layout live read (hears_reading read reply.now)) result }
+pub fn hear_reading(
+    alloc: Global,
+    catalog: &Catalog,
+    layout: Layout,
+    live: Open,
+    read: Read,
+    reply: &Reply,
+) -> After
+    ensures { IsTaken layout (takes_reading layout live read (hears_reading catalog.now read reply.now)) result }
 {
     match read {
-        Read::Point => match hear_record(alloc, reply) {
-            Ok(cell) => take_point(layout, live, cell),
+        Read::Point(key) => match hear_record(alloc, catalog, &key, reply) {
+            Ok(cell) => take_point(layout, live, key, cell),
             Err(NoMemory) => After::out(Mark::Quiet),
         },
-        Read::Range(read) => match hear_page(alloc, reply) {
+        Read::Range(read) => match hear_page(alloc, catalog, &read.from, &read.before, reply) {
             Ok(page) => take_page(layout, live, read, page),
             Err(NoMemory) => After::out(Mark::Quiet),
         },
     }
 }
 
-fn take_point(layout: Layout, live: Open, cell: Option<RecordCell>) -> After
-    ensures { IsTaken layout (takes_reading layout live read_as.Point (record_or_strange cell)) result }
+fn take_point(layout: Layout, live: Open, key: Bytes, cell: Option<RecordCell>) -> After
+    ensures { IsTaken layout (takes_reading layout live (read_as.Point key) (record_or_strange cell)) result }
 {
-    let _ = layout;
+    let _ = (layout, key);
     let Some(cell) = cell else {
         return After::strange();
     };

@@ -22,10 +22,10 @@ use crate::undo::hear_removing;
 use std::alloc::Global;
 use std::mem;
 use tl_ask::{Asked, Layout, load_commits, load_record, store_log};
-use tl_base::{Bytes, NoMemory, NodeId, PlaceId, Tid};
+use tl_base::{Bytes, Duplicate, NoMemory, NodeId, PlaceId, Tid};
 use tl_descriptor::Descriptor;
 use tl_manager::{Reply, Request, TxnStep};
-use tl_schema::{Access, RECORD, Setup};
+use tl_schema::{Access, Catalog, RECORD, Setup};
 use tl_values::Rows;
 use tl_write::Buffer;
 
@@ -98,26 +98,33 @@ impl Txn {
         matches!(&self.phase, Phase::Ready(_))
     }
 
-    /// Takes the reply to what it asks for. `None` at a reply that no place of a run gives; then it asks nothing more.
-    pub fn heed(&mut self, reply: &Reply) -> Option<TxnStep>
-        ensures taken { IsTaken self.old.layout (takes self.old.layout self.old.node self.old.phase (hears self.old.phase reply.now)) (record { phase = self.new.phase; next = self.new.next; step = result }) }
+    /// Takes the reply to what it asks for, in a database of these tables. `None` at a reply that no place of a run gives; then it asks nothing more.
+    pub fn heed(&mut self, catalog: &Catalog, reply: &Reply) -> Option<TxnStep>
+        ensures taken { IsTaken self.old.layout (takes self.old.layout self.old.node self.old.phase (hears catalog.now self.old.phase reply.now)) (record { phase = self.new.phase; next = self.new.next; step = result }) }
         ensures stays { IsSameRun self.old self.new }
     {
         let phase = mem::replace(&mut self.phase, Phase::Stopped);
-        let After { phase, next, step } = hear(self.alloc, self.layout, self.node, phase, reply);
+        let After { phase, next, step } = hear(
+            self.alloc,
+            catalog,
+            self.layout,
+            self.node,
+            phase,
+            reply,
+        );
         self.phase = phase;
         self.next = next;
         step
     }
 
     /// Takes the reply to what it asks for, which is one that a place of a run gives.
-    pub fn take(&mut self, reply: &Reply) -> TxnStep
+    pub fn take(&mut self, catalog: &Catalog, reply: &Reply) -> TxnStep
         requires asks { IsSome self.old.next }
-        requires known { IsSome (takes self.old.layout self.old.node self.old.phase (hears self.old.phase reply.now)).step }
-        ensures taken { IsTaken self.old.layout (takes self.old.layout self.old.node self.old.phase (hears self.old.phase reply.now)) (record { phase = self.new.phase; next = self.new.next; step = Some result }) }
+        requires known { IsSome (takes self.old.layout self.old.node self.old.phase (hears catalog.now self.old.phase reply.now)).step }
+        ensures taken { IsTaken self.old.layout (takes self.old.layout self.old.node self.old.phase (hears catalog.now self.old.phase reply.now)) (record { phase = self.new.phase; next = self.new.next; step = Some result }) }
         ensures stays { IsSameRun self.old self.new }
     {
-        match self.heed(reply) {
+        match self.heed(catalog, reply) {
             Some(step) => step,
             None => unreachable!(),
         }
@@ -311,7 +318,8 @@ fn begin_read(
     match access {
         Access::Point { key } => {
             let key = table_key(alloc, table, key.as_slice())?;
-            Ok((load_record(layout, key), Read::Point))
+            let wanted = key.copy()?;
+            Ok((load_record(layout, wanted), Read::Point(key)))
         }
         Access::KeyRange { low, high } => {
             begin_range(alloc, layout, table, low.as_slice(), high.as_slice())
@@ -353,19 +361,26 @@ fn table_key(alloc: Global, table: u8, key: &[u8]) -> Result<Bytes, NoMemory>
 }
 
 /// What it does with a reply, by how far it is.
-fn hear(alloc: Global, layout: Layout, node: NodeId, phase: Phase, reply: &Reply) -> After
-    ensures { IsTaken layout (takes layout node phase (hears phase reply.now)) result }
+fn hear(
+    alloc: Global,
+    catalog: &Catalog,
+    layout: Layout,
+    node: NodeId,
+    phase: Phase,
+    reply: &Reply,
+) -> After
+    ensures { IsTaken layout (takes layout node phase (hears catalog.now phase reply.now)) result }
 {
     match phase {
         Phase::Asking => hear_asking(alloc, layout, node, reply),
         Phase::Noted(seen) => hear_noted(alloc, layout, node, seen, reply),
         Phase::Drawing(seen) => hear_drawing(layout, node, seen, reply),
         Phase::Bringing { seen, low: _ } => hear_bringing(layout, node, seen, reply),
-        Phase::Reading(live, read) => hear_reading(alloc, layout, live, read, reply),
+        Phase::Reading(live, read) => hear_reading(alloc, catalog, layout, live, read, reply),
         Phase::TryingNothing(live) => hear_trying_nothing(alloc, layout, live, reply),
         Phase::Trying(attempt) => hear_trying(alloc, layout, attempt, reply),
-        Phase::Storing(storing) => hear_storing(alloc, layout, storing, reply),
-        Phase::Removing(removing) => hear_removing(alloc, layout, removing, reply),
+        Phase::Storing(storing) => hear_storing(alloc, catalog, layout, storing, reply),
+        Phase::Removing(removing) => hear_removing(alloc, catalog, layout, removing, reply),
         Phase::GivingUp(live) => hear_giving_up(alloc, layout, live, reply),
         Phase::Closing {
             tid,

@@ -23,6 +23,7 @@ use tl_ask::{
 };
 use tl_base::{Duplicate, NoMemory, Tid};
 use tl_manager::{Mark, Reply};
+use tl_schema::Catalog;
 use tl_write::Write;
 
 /// It met the version of this rival in the own record in hand.
@@ -83,16 +84,22 @@ fn write_in_hand(removing: &Removing) -> Option<&Write>
     removing.attempt.own_at(removing.removed)
 }
 
-pub fn hear_removing(alloc: Global, layout: Layout, removing: Removing, reply: &Reply) -> After
-    ensures { IsTaken layout (takes_removing removing removing.loaded (removal_at removing) (hears_own removing.loaded (removal_at removing) reply.now)) result }
+pub fn hear_removing(
+    alloc: Global,
+    catalog: &Catalog,
+    layout: Layout,
+    removing: Removing,
+    reply: &Reply,
+) -> After
+    ensures { IsTaken layout (takes_removing removing removing.loaded (removal_at removing) (hears_own catalog.now removing.loaded (removal_at removing) reply.now)) result }
 {
     if removing.loaded {
         return take_removed(alloc, layout, removing, hear_store(reply));
     }
-    if write_in_hand(&removing).is_none() {
+    let Some(own) = write_in_hand(&removing) else {
         return take_undone(alloc, layout, removing, hear_store(reply));
-    }
-    match hear_record(alloc, reply) {
+    };
+    match hear_record(alloc, catalog, &own.key, reply) {
         Ok(cell) => take_loaded(layout, removing, cell),
         Err(NoMemory) => After::out(Mark::Quiet),
     }

@@ -2,7 +2,8 @@ use Rattle.std.proofs.Common.{false, refl}
 use Rattle.tl_manager.specs.declared.mark.Mark.TheVariants as mark
 use Rattle.tl_txn.proofs.Hearing.{stopped, taken_so}
 use Rattle.tl_txn.proofs.Told.{closing_told}
-use Rattle.tl_txn.specs.Hears.{hears_closing, hears_commits}
+use Rattle.tl_ask.specs.Hears.{hears_commits}
+use Rattle.tl_txn.specs.Hears.{hears_closing}
 use Rattle.tl_txn.specs.Taken.{takes_closing}
 use Rattle.tl_txn.proofs.finish.hear_closing.Goals as goal
 

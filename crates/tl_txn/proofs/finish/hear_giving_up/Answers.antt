@@ -1,7 +1,7 @@
 use Rattle.tl_manager.specs.declared.mark.Mark.TheVariants as mark
 use Rattle.tl_txn.proofs.Hearing.{stopped}
 use Rattle.tl_txn.proofs.Told.{giving_up_told}
-use Rattle.tl_txn.specs.Hears.{hears_commits}
+use Rattle.tl_ask.specs.Hears.{hears_commits}
 use Rattle.tl_txn.specs.Taken.{takes_giving_up}
 use Rattle.tl_txn.proofs.finish.hear_giving_up.Goals as goal
 

@@ -1,5 +1,5 @@
 use Rattle.std.proofs.Common.{[], subst}
-use Rattle.tl_txn.proofs.FollowsReads.{read_ends, read_goes, read_stops, reads_thin}
+use Rattle.tl_txn.proofs.FollowsReads.{read_ends, read_goes, read_stops}
 use Rattle.tl_txn.proofs.FollowsThin.{begins_so, ends_so, goes_on, kept_thin, stops_so, tells_so}
 use Rattle.tl_txn.proofs.Thinned.{does_thin}
 use Rattle.tl_txn.proofs.FollowsSteps.{IsOwnStep, commits_heard, may_hear, own_step}
@@ -43,16 +43,13 @@ pub returns-clause-reads_all : goal.returns-clause-reads_all
 returns-clause-reads_all c settings live r reads left heard mark e = read_ends settings live r reads left heard mark e
 
 pub returns-clause-hears : goal.returns-clause-hears
-returns-clause-hears c phase reply = may_hear phase reply
+returns-clause-hears c catalog phase reply = may_hear catalog phase reply
 
 pub returns-clause-hears_commits : goal.returns-clause-hears_commits
 returns-clause-hears_commits c reply = commits_heard reply
 
 pub returns-clause-reads_stop : goal.returns-clause-reads_stop
 returns-clause-reads_stop c settings live r reads left heard e = read_stops settings live r reads left heard e
-
-pub returns-clause-reads_thin : goal.returns-clause-reads_thin
-returns-clause-reads_thin c settings snapshot reads left heard = reads_thin settings snapshot reads left heard
 
 pub returns-clause-node_reads_on : goal.returns-clause-node_reads_on
 returns-clause-node_reads_on c settings catalog node statement t reads live r left heard told mark h e =

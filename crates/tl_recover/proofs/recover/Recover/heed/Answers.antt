@@ -15,7 +15,7 @@ returns-in-Ok c =
       layout = refl;
       all = refl;
       after = subst
-          (λ (p : Phase). IsAfter before.layout (takes before.layout before.all p (hears p c.args.reply.now)) after.phase after.next after.step)
+          (λ (p : Phase). IsAfter before.layout (takes before.layout before.all p (hears c.args.catalog.now p c.args.reply.now)) after.phase after.next after.step)
           c.replace-phase.ensures.value
-          (given before.layout before.all now (hears now c.args.reply.now) after c.in-Ok.ensures);
+          (given before.layout before.all now (hears c.args.catalog.now now c.args.reply.now) after c.in-Ok.ensures);
     }

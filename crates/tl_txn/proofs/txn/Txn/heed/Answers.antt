@@ -8,5 +8,5 @@ use Rattle.tl_txn.proofs.txn.Txn.heed.Goals as goal
 pub returns-clause-taken : goal.returns-clause-taken
 returns-clause-taken c =
     let t = c.args.self.now in
-    subst (λ (p : Phase). IsTaken t.layout (takes t.layout t.node p (hears p c.args.reply.now)) c.hear-phase.result) c.replace-phase.ensures.value
+    subst (λ (p : Phase). IsTaken t.layout (takes t.layout t.node p (hears c.args.catalog.now p c.args.reply.now)) c.hear-phase.result) c.replace-phase.ensures.value
     c.hear-phase.ensures
