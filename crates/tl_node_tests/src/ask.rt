@@ -1,3 +1,4 @@
+use crate::tables::catalog_of;
 use std::alloc::Global;
 use std::test::Fail;
 use tl_ask::{
@@ -5,10 +6,9 @@ use tl_ask::{
     hear_numbers, hear_page, hear_record, hear_store, load_commits, load_log, load_record,
     read_page, requests_alike, store_commits, store_log, store_record,
 };
-use tl_base::{Bytes, Item, Items, NodeId, Settings, Stamp, StoreReply, Text};
+use tl_base::{Bytes, Item, Items, NodeId, Settings, Stamp, StoreReply};
 use tl_descriptor::Descriptor;
 use tl_manager::{ManagerReply, ManagerRequest, Reply};
-use tl_schema::{Catalog, Column, Table};
 use tl_versions::Versions;
 
 // The key of the record with the key 1 in table 0.
@@ -146,33 +146,18 @@ enum Kind {
     Manager,
 }
 
-// A table whose key is one number.
-fn catalog(alloc: Global) -> Result<Catalog, Fail> {
-    let mut columns = Items::new(alloc);
-    columns.push(Column {
-        name: Text::from_str(alloc, "k")?,
-        kind: tl_values::Kind::Int,
-        not_null: true,
-    })?;
-    let mut tables = Items::new(alloc);
-    tables.push(Table {
-        name: Text::from_str(alloc, "t")?,
-        columns,
-        key: Items::from_slice(alloc, &[0])?,
-        indexes: Items::new(alloc),
-    })?;
-    Ok(Catalog { tables })
-}
-
 fn heard(alloc: Global, kind: Kind, reply: &Reply) -> Result<String, Fail> {
     let text = match kind {
         Kind::Commits => format!(in alloc; "{:?}", hear_commits(alloc, reply)?)?,
-        Kind::Log => format!(in alloc; "{:?}", hear_log(alloc, &catalog(alloc)?, reply)?)?,
+        Kind::Log => format!(in alloc;
+            "{:?}",
+            hear_log(alloc, &catalog_of(alloc, &[tl_values::Kind::Int])?, reply)?
+        )?,
         Kind::Record => format!(in alloc;
             "{:?}",
             hear_record(
                 alloc,
-                &catalog(alloc)?,
+                &catalog_of(alloc, &[tl_values::Kind::Int])?,
                 &Bytes::from_slice(alloc, &KEY)?,
                 reply
             )?
@@ -181,7 +166,7 @@ fn heard(alloc: Global, kind: Kind, reply: &Reply) -> Result<String, Fail> {
             "{:?}",
             hear_page(
                 alloc,
-                &catalog(alloc)?,
+                &catalog_of(alloc, &[tl_values::Kind::Int])?,
                 &Bytes::from_slice(alloc, &[4, 0])?,
                 &Bytes::from_slice(alloc, &[4, 1])?,
                 reply

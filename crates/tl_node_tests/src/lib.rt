@@ -13,4 +13,6 @@ mod recover;
 #[cfg(test)]
 mod render;
 #[cfg(test)]
+mod tables;
+#[cfg(test)]
 mod txn;

@@ -1,5 +1,6 @@
 ghost use Rattle.std.specs.Prelude.{◌≡◌};
 
+use crate::tables::catalog_of;
 use std::alloc::Global;
 use std::process::Abort;
 use std::test::Fail;
@@ -9,15 +10,16 @@ use tl_base::{
 use tl_manager::{ManagerReply, ManagerRequest, Mark, Reply, Request, TxnStep};
 use tl_recover::{Recover, duties_go_on};
 use tl_schema::{Catalog, Setup};
+use tl_values::Kind;
 
 // The keys of the commits cell, of the log cell of transaction 5, and of two records.
 const COMMITS: [u8; 1] = [1];
 
 const LOG: [u8; 9] = [3, 0, 0, 0, 0, 0, 0, 0, 5];
 
-const FIRST: [u8; 3] = [4, 0, 1];
+const FIRST: [u8; 4] = [4, 0, 1, 0];
 
-const SECOND: [u8; 3] = [4, 0, 2];
+const SECOND: [u8; 4] = [4, 0, 1, 1];
 
 // The transactions up to 4 are finished, and those up to 5.
 const UP_TO_4: [u8; 12] = [0, 0, 0, 0, 0, 0, 0, 4, 0, 0, 0, 0];
@@ -25,16 +27,16 @@ const UP_TO_4: [u8; 12] = [0, 0, 0, 0, 0, 0, 0, 4, 0, 0, 0, 0];
 const UP_TO_5: [u8; 12] = [0, 0, 0, 0, 0, 0, 0, 5, 0, 0, 0, 0];
 
 // Transaction 5 of node 2, with both records: it tries, it is decided, and it is undone.
-const TRYING: [u8; 25] = [
-    1, 0, 0, 0, 0, 0, 0, 0, 5, 2, 0, 0, 0, 0, 2, 0, 3, 4, 0, 1, 0, 3, 4, 0, 2,
+const TRYING: [u8; 27] = [
+    1, 0, 0, 0, 0, 0, 0, 0, 5, 2, 0, 0, 0, 0, 2, 0, 4, 4, 0, 1, 0, 0, 4, 4, 0, 1, 1,
 ];
 
-const DECIDED: [u8; 25] = [
-    1, 0, 0, 0, 0, 0, 0, 0, 5, 2, 1, 0, 0, 0, 2, 0, 3, 4, 0, 1, 0, 3, 4, 0, 2,
+const DECIDED: [u8; 27] = [
+    1, 0, 0, 0, 0, 0, 0, 0, 5, 2, 1, 0, 0, 0, 2, 0, 4, 4, 0, 1, 0, 0, 4, 4, 0, 1, 1,
 ];
 
-const UNDONE: [u8; 25] = [
-    1, 0, 0, 0, 0, 0, 0, 0, 5, 2, 2, 0, 0, 0, 2, 0, 3, 4, 0, 1, 0, 3, 4, 0, 2,
+const UNDONE: [u8; 27] = [
+    1, 0, 0, 0, 0, 0, 0, 0, 5, 2, 2, 0, 0, 0, 2, 0, 4, 4, 0, 1, 0, 0, 4, 4, 0, 1, 1,
 ];
 
 // Deletions by transactions 5 and 1, and by 1 alone.
@@ -152,7 +154,8 @@ fn expect_turns(
     for (wanted, says, step) in turns {
         expect_asks(rt, &recovery, manager, *wanted);
         let reply = reply_of(alloc, *says)?;
-        assert_eq!(rt; recovery.heed(&reply), Some(*step));
+        let catalog = catalog_of(alloc, &[Kind::Bool])?;
+        assert_eq!(rt; recovery.heed(&catalog, &reply), Some(*step));
     }
     assert!(rt; recovery.ask().is_none());
     Ok(())
@@ -254,9 +257,10 @@ fn a_strange_reply_stops_it(rt: HostRuntime) -> Result<(), Fail> {
     for says in [Says::Ended, Says::Stored(1), Says::Orphaned(&[1 << 63])] {
         let mut recovery = recovery_of(alloc, 2, NodeSet::new())?;
         let reply = reply_of(alloc, says)?;
-        assert_eq!(rt; recovery.heed(&reply), None);
+        let catalog = catalog_of(alloc, &[Kind::Bool])?;
+        assert_eq!(rt; recovery.heed(&catalog, &reply), None);
         assert!(rt; recovery.ask().is_none());
-        assert_eq!(rt; recovery.heed(&reply), None);
+        assert_eq!(rt; recovery.heed(&catalog, &reply), None);
     }
     Ok(())
 }

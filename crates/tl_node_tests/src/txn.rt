@@ -1,3 +1,4 @@
+use crate::tables::catalog_of;
 use std::alloc::Global;
 use std::process::Abort;
 use std::test::Fail;
@@ -6,7 +7,7 @@ use tl_descriptor::Descriptor;
 use tl_manager::{ManagerReply, Reply};
 use tl_schema::{Access, Catalog, Setup};
 use tl_txn::Txn;
-use tl_values::{Row, Value};
+use tl_values::{Kind, Row, Value};
 use tl_write::Write;
 
 // The key of the record with the key 1 in table 0, and its row (1, 10).
@@ -31,7 +32,7 @@ enum Told {
     Stored(u64),
     Moved(u64),
     Count(u64),
-    Page(&'static [u8], bool),
+    Page(u8, &'static [u8], bool),
     Began(u64),
     NeedRange,
     Ranged,
@@ -50,15 +51,7 @@ fn reply(alloc: Global, told: &Told) -> Result<Reply, Fail> {
         Told::Stored(stamp) => Ok(Reply::Store(StoreReply::Stored { stamp: *stamp })),
         Told::Moved(stamp) => Ok(Reply::Store(StoreReply::Moved { stamp: *stamp })),
         Told::Count(old) => Ok(Reply::Store(StoreReply::Count { old: *old })),
-        Told::Page(value, more) => {
-            let mut list = Items::new(alloc);
-            list.push(Item {
-                key: Bytes::from_slice(alloc, &KEY)?,
-                stamp: 1,
-                value: Bytes::from_slice(alloc, *value)?,
-            })?;
-            Ok(Reply::Store(StoreReply::Items { list, more: *more }))
-        }
+        Told::Page(first, value, more) => page(alloc, *first, value, *more),
         Told::Began(tid) => Ok(Reply::Manager(ManagerReply::Began {
             tid: *tid,
             snapshot: Descriptor::new(alloc, 0),
@@ -68,6 +61,23 @@ fn reply(alloc: Global, told: &Told) -> Result<Reply, Fail> {
         Told::Ranged => Ok(Reply::Manager(ManagerReply::Ranged)),
         Told::Ended => Ok(Reply::Manager(ManagerReply::Ended)),
     }
+}
+
+// A page from the record of this number on: it has this cell, and 63 of deleted records where there are more.
+fn page(alloc: Global, first: u8, value: &[u8], more: bool) -> Result<Reply, Fail> {
+    let mut list = Items::new(alloc);
+    let count: u8 = if more { 64 } else { 1 };
+    for at in 0..count {
+        let mut key = KEY;
+        key[10] = first.wrapping_add(at);
+        let value = if at == 0 { value } else { DELETION.as_slice() };
+        list.push(Item {
+            key: Bytes::from_slice(alloc, &key)?,
+            stamp: 1,
+            value: Bytes::from_slice(alloc, value)?,
+        })?;
+    }
+    Ok(Reply::Store(StoreReply::Items { list, more }))
 }
 
 fn start(alloc: Global, shards: u8) -> Result<Txn, Fail> {
@@ -92,7 +102,8 @@ fn start(alloc: Global, shards: u8) -> Result<Txn, Fail> {
 /// What it tells at the reply, and what it asks next.
 fn heed(alloc: Global, txn: &mut Txn, told: &Told) -> Result<String, Fail> {
     let reply = reply(alloc, told)?;
-    let step = txn.heed(&reply);
+    let catalog = catalog_of(alloc, &[Kind::Int, Kind::Int])?;
+    let step = txn.heed(&catalog, &reply);
     let ask = txn.ask();
     let text = format!(in alloc; "{step:?} {ask:?}")?;
     Ok(text)
@@ -233,14 +244,14 @@ static GIVES_UP: [(Told, &'static str); 3] = [
 
 static READS: [(Told, &'static str); 3] = [
     (
-        Told::Page(&CELL, true),
-        "Some(Going(Quiet)) Some((Shard(0), Store(Page { from: Bytes { bytes: [4, 0, 2, 128, 0, 0, 0, 0, 0, 0, 1, 0] }, before: Bytes { bytes: [4, 0, 4] }, limit: 64 })))",
+        Told::Page(1, &CELL, true),
+        "Some(Going(Quiet)) Some((Shard(0), Store(Page { from: Bytes { bytes: [4, 0, 2, 128, 0, 0, 0, 0, 0, 0, 64, 0] }, before: Bytes { bytes: [4, 0, 4] }, limit: 64 })))",
     ),
     (
-        Told::Page(&DELETION, false),
+        Told::Page(65, &DELETION, false),
         "Some(Going(Quiet)) Some((Shard(1), Store(Page { from: Bytes { bytes: [4, 0, 1] }, before: Bytes { bytes: [4, 0, 4] }, limit: 64 })))",
     ),
-    (Told::Page(&CELL, false), "Some(Ready(Quiet)) None"),
+    (Told::Page(1, &CELL, false), "Some(Ready(Quiet)) None"),
 ];
 
 /// A transaction that is ready: it has the number 1, and sees what stood before all transactions.
