@@ -79,35 +79,42 @@ module _ (settings : Settings) (catalog : Catalog) (node : Node) (told : Answer)
   finishing_stops c o committed None = refl
   finishing_stops c o committed (Some x) = refl
 
-  none_asked : (ask : Ask) → ◌≡◌ {A = Option Ask} None (Some ask) → ⊥
-  none_asked ask e = cc
+  -- whoever hasn't stopped stops then
+  pub doing_stops : (statement : Bound) (doing : Doing) → is_stopped doing ≡ false → Stops (takes_doing settings catalog node statement doing Strange told)
+  doing_stops statement Outside e = outside_stops (course_outside statement)
+  doing_stops statement (Noted seen) e = refl
+  doing_stops statement (Drawing seen) e = refl
+  doing_stops statement (Bringing seen low) e = refl
+  doing_stops statement (Inside t) e = inside_stops statement t (course_in catalog t.stage statement)
+  doing_stops statement (Reading t reads) e = read_stops statement t reads
+  doing_stops statement (Trying t) e = refl
+  doing_stops statement (Stores s l) e = storing_stops s l s.left
+  doing_stops statement (Removes r l) e = removing_stops r l r.left
+  doing_stops statement (Closing t d c) e = closing_stops t d c
+  doing_stops statement (Ending tid said_so) e = refl
+  doing_stops statement (Recovering c) e = recovering_stops c c.left
+  doing_stops statement (ReadingLog c o) e = refl
+  doing_stops statement (Stripping c o log keys l) e = stripping_stops c o log keys l
+  doing_stops statement (Finishing c o committed x) e = finishing_stops c o committed x
+  doing_stops statement (EndingLost c o) e = refl
+  doing_stops statement (Stopped nodes) e = absurd cc
 
-  doing_stops : (statement : Bound) (doing : Doing) (ask : Ask) → asks_doing settings catalog node statement doing ≡ Some ask
-      → Stops (takes_doing settings catalog node statement doing Strange told)
-  doing_stops statement Outside ask e = outside_stops (course_outside statement)
-  doing_stops statement (Noted seen) ask e = refl
-  doing_stops statement (Drawing seen) ask e = refl
-  doing_stops statement (Bringing seen low) ask e = refl
-  doing_stops statement (Inside t) ask e = inside_stops statement t (course_in catalog t.stage statement)
-  doing_stops statement (Reading t reads) ask e = read_stops statement t reads
-  doing_stops statement (Trying t) ask e = refl
-  doing_stops statement (Stores s l) ask e = storing_stops s l s.left
-  doing_stops statement (Removes r l) ask e = removing_stops r l r.left
-  doing_stops statement (Closing t d c) ask e = closing_stops t d c
-  doing_stops statement (Ending tid said_so) ask e = refl
-  doing_stops statement (Recovering c) ask e = recovering_stops c c.left
-  doing_stops statement (ReadingLog c o) ask e = refl
-  doing_stops statement (Stripping c o log keys l) ask e = stripping_stops c o log keys l
-  doing_stops statement (Finishing c o committed x) ask e = finishing_stops c o committed x
-  doing_stops statement (EndingLost c o) ask e = refl
-  doing_stops statement (Stopped nodes) ask e = absurd (none_asked ask e)
+none_asked : (ask : Ask) → ◌≡◌ {A = Option Ask} None (Some ask) → ⊥
+none_asked ask e = cc
+
+asks_runs : (settings : Settings) (catalog : Catalog) (node : Node) (statement : Bound) (doing : Doing) (ask : Ask)
+    → asks_doing settings catalog node statement doing ≡ Some ask → is_stopped doing ≡ false
+asks_runs settings catalog node statement (Stopped nodes) ask e = absurd (none_asked ask e)
+asks_runs settings catalog node statement doing ask e = refl
 
 pub stops_at_strange : StopsAtStrange
 stops_at_strange settings catalog node ask = by node.todo
   where
     by : (todo : List Bound) → asks settings catalog (record node { todo = todo }) ≡ Some ask → stops_at settings catalog (record node { todo = todo }) Strange ≡ true
-    by [] e = absurd (none_asked settings catalog node answer.Begun ask e)
-    by (statement ∷ later) e = doing_stops settings catalog (record node { todo = statement ∷ later }) answer.Begun statement node.doing ask e
+    by [] e = absurd (none_asked ask e)
+    by (statement ∷ later) e =
+        doing_stops settings catalog (record node { todo = statement ∷ later }) answer.Begun statement node.doing
+        (asks_runs settings catalog (record node { todo = statement ∷ later }) statement node.doing ask e)
 
 pub heard_as_said : HeardAsSaid
 heard_as_said settings catalog node ask told asked strange = by (may_reply ask told && is_sound catalog ask (heard ask told)) refl

@@ -19,14 +19,15 @@ use Rattle.tl_protocol.specs.Move.{is_empty}
 use Rattle.tl_protocol.specs.Next.{end_answer}
 use Rattle.tl_protocol.specs.Store.{Key, CommitsCell, LogCell}
 use Rattle.tl_protocol.specs.World.{Stage, Fresh, Opened, Answering, Txn, Loaded, Decision}
-use Rattle.tl_journal.specs.Ask.{Ask, LoadCommits, StoreCommits, LoadLog, StoreLog, LoadRecord, StoreRecord, ReadPage, DrawNumbers, AskManager, Heard, Commits, Record, Stored, Moved}
-use Rattle.tl_journal.specs.Asks.{Course, ToRead, ToCommit, asks, asks_finish, asks_read, asks_removing, asks_storing, asks_stripping}
+use Rattle.tl_journal.specs.Ask.{Ask, LoadCommits, StoreCommits, LoadLog, StoreLog, LoadRecord, StoreRecord, ReadPage, DrawNumbers, AskManager, Heard, Commits, Stored, Moved}
+use Rattle.tl_journal.specs.Asks.{Course, ToRead, ToCommit, asks, asks_finish, asks_removing, asks_storing, asks_stripping}
 use Rattle.tl_journal.specs.Bytes.{heard}
+use Rattle.tl_ask.specs.Given.{shown_heard}
 use Rattle.tl_journal.specs.Node.{Storing, Removing, Claimed, Lost, Doing, Inside, Reading, Trying, Stores, Removes, Closing, Ending, Stripping, Finishing, Stopped, Node, owed_by}
-use Rattle.tl_journal.specs.Reads.{Read, Point, Range, Reads, tables_read}
+use Rattle.tl_journal.specs.Reads.{Read, Reads, tables_read}
 use Rattle.tl_journal.specs.Strange.{is_stopped}
 use Rattle.tl_journal.specs.Takes.{after_reply, goes_on, said, takes_closing, takes_commit, takes_finishing, takes_read, takes_removing, takes_storing, takes_stripping, takes_trying, with_doing}
-use Rattle.tl_ask.specs.Thin.{bare, thin_commits, thin_loaded, thin_read}
+use Rattle.tl_ask.specs.Thin.{bare, thin_commits, thin_loaded}
 use Rattle.tl_node.specs.Seen.{seen, settled_by}
 
 -- two nodes that are the same as code sees them
@@ -46,11 +47,6 @@ same_alike settings catalog x y e = record {
 
 -- ---- requests that lack dead data are of the same kind
 
-load_alike : (k j : Key) (p : Reply) → heard (LoadRecord k) p ≡ heard (LoadRecord j) p
-load_alike k j (reply.Store (stored.Cell stamp value)) = refl
-load_alike k j (reply.Store p) = refl
-load_alike k j (reply.Manager p) = refl
-
 store_alike : (k j : Key) (stamp other : ℕ) (vs us : List Version) (p : Reply) → heard (StoreRecord k stamp vs) p ≡ heard (StoreRecord j other us) p
 store_alike k j stamp other vs us (reply.Store p) = refl
 store_alike k j stamp other vs us (reply.Manager p) = refl
@@ -58,16 +54,6 @@ store_alike k j stamp other vs us (reply.Manager p) = refl
 commits_alike : (stamp other : ℕ) (x y : TidSet) (p : Reply) → heard (StoreCommits stamp x) p ≡ heard (StoreCommits other y) p
 commits_alike stamp other x y (reply.Store p) = refl
 commits_alike stamp other x y (reply.Manager p) = refl
-
--- ---- reads
-
-pub after_thin : (settings : Settings) (snapshot : TidSet) (reads : Reads) (left : List Read) (h : Heard)
-    → after_reply settings snapshot (record reads { left = thin_read left }) (thin_read left) h ≡ after_reply settings snapshot (record reads { left = left }) left h
-after_thin settings snapshot reads [] h = refl
-after_thin settings snapshot reads (Point key ∷ []) (Record cell) = refl
-after_thin settings snapshot reads (Point key ∷ read ∷ left) (Record cell) = refl
-after_thin settings snapshot reads (Point key ∷ left) h = refl
-after_thin settings snapshot reads (Range shard from first before ∷ left) h = refl
 
 -- ---- what a node does doesn't lie in what it did
 
@@ -89,30 +75,25 @@ kind LoadCommits = LoadCommits
 kind (StoreCommits stamp set) = StoreCommits 0 opening_copy
 kind (LoadLog tid) = LoadLog tid
 kind (StoreLog stamp log) = StoreLog stamp log
-kind (LoadRecord key) = LoadRecord []
+kind (LoadRecord key) = LoadRecord key
 kind (StoreRecord key stamp versions) = StoreRecord [] 0 []
 kind (ReadPage shard from before) = ReadPage shard from before
 kind DrawNumbers = DrawNumbers
 kind (AskManager manager asked) = AskManager manager asked
 
-pub kind_heard : (ask : Ask) (p : Reply) → heard (kind ask) p ≡ heard ask p
-kind_heard LoadCommits p = refl
-kind_heard (StoreCommits stamp set) p = commits_alike 0 stamp opening_copy set p
-kind_heard (LoadLog tid) p = refl
-kind_heard (StoreLog stamp log) p = refl
-kind_heard (LoadRecord key) p = load_alike [] key p
-kind_heard (StoreRecord key stamp versions) p = store_alike [] key 0 stamp [] versions p
-kind_heard (ReadPage shard from before) p = refl
-kind_heard DrawNumbers p = refl
-kind_heard (AskManager manager asked) p = refl
+pub kind_heard : (catalog : Catalog) (ask : Ask) (p : Reply) → shown_heard catalog (kind ask) p ≡ shown_heard catalog ask p
+kind_heard catalog LoadCommits p = refl
+kind_heard catalog (StoreCommits stamp set) p = commits_alike 0 stamp opening_copy set p
+kind_heard catalog (LoadLog tid) p = refl
+kind_heard catalog (StoreLog stamp log) p = refl
+kind_heard catalog (LoadRecord key) p = refl
+kind_heard catalog (StoreRecord key stamp versions) p = store_alike [] key 0 stamp [] versions p
+kind_heard catalog (ReadPage shard from before) p = refl
+kind_heard catalog DrawNumbers p = refl
+kind_heard catalog (AskManager manager asked) p = refl
 
-pub same_kind : (ask other : Ask) (p : Reply) → kind ask ≡ kind other → heard ask p ≡ heard other p
-same_kind ask other p e = sym (kind_heard ask p) ∙ ap (λ (a : Ask). heard a p) e ∙ kind_heard other p
-
-pub read_kind : (left : List Read) → kind (asks_read (thin_read left)) ≡ kind (asks_read left)
-read_kind [] = refl
-read_kind (Point key ∷ left) = refl
-read_kind (Range shard from first before ∷ left) = refl
+pub same_kind : (catalog : Catalog) (ask other : Ask) (p : Reply) → kind ask ≡ kind other → shown_heard catalog ask p ≡ shown_heard catalog other p
+same_kind catalog ask other p e = sym (kind_heard catalog ask p) ∙ ap (λ (a : Ask). shown_heard catalog a p) e ∙ kind_heard catalog other p
 
 pub storing_kind : (m : Node) (s : Storing) (l : Option Loaded) → kind (asks_storing m s (thin_loaded l)) ≡ kind (asks_storing m s l)
 storing_kind m s None = refl
@@ -207,8 +188,6 @@ module _ (settings : Settings) (catalog : Catalog) (n : Node) where
   read_so x y statement t reads other h told (Some after) e f g = rw (f, g) (goes_any catalog n x y statement t after after.left told)
 
   pub reads_same : (x y : Doing) (statement : Bound) (t : Txn) (reads : Reads) (h : Heard) (told : Answer) → owed_by x ≡ owed_by y
-      → takes_read settings catalog (with_doing n x) statement t (record reads { left = thin_read reads.left }) h told
-      ≡ takes_read settings catalog (with_doing n y) statement t reads h told
+      → takes_read settings catalog (with_doing n x) statement t reads h told ≡ takes_read settings catalog (with_doing n y) statement t reads h told
   reads_same x y statement t reads h told e =
-      read_so x y statement t (record reads { left = thin_read reads.left }) reads h told (after_reply settings t.snapshot reads reads.left h) e
-      (after_thin settings t.snapshot reads reads.left h) refl
+      read_so x y statement t reads reads h told (after_reply settings t.snapshot reads reads.left h) e refl refl

@@ -1,5 +1,5 @@
 -- What a node tells at a reply, and whether the reply is strange, as the law has it and as code sees it.
-use Rattle.std.proofs.Common.{◌≡◌, Bool, false, List, Option, Some, None, refl, sym, ap, ◌∙◌, subst}
+use Rattle.std.proofs.Common.{◌≡◌, Bool, false, List, Option, Some, None, refl, sym, ap, subst}
 use Rattle.tl_base.specs.declared.place.Settings.{Settings}
 use Rattle.tl_schema.specs.declared.catalog.Catalog.{Catalog}
 use Rattle.tl_isolation.specs.declared.bound.Bound.{Bound}
@@ -12,13 +12,12 @@ use Rattle.tl_journal.specs.Ask.{Heard, Commits, Stored}
 use Rattle.tl_journal.specs.Asks.{Course, course_in}
 use Rattle.tl_journal.specs.Memory.{is_ending}
 use Rattle.tl_journal.specs.Node.{Storing, Lost, Doing, Inside, Reading, Stores, Closing, Finishing, Node, owed_by}
-use Rattle.tl_journal.specs.Reads.{Reads}
-use Rattle.tl_journal.specs.Says.{says_closing, says_doing, says_finishing, says_inside, says_read, says_storing}
+use Rattle.tl_journal.specs.Says.{says_closing, says_doing, says_finishing, says_inside, says_storing}
 use Rattle.tl_journal.specs.Strange.{is_odd_for}
-use Rattle.tl_journal.specs.Takes.{MeansDoing, MeansInside, MeansRead, after_reply}
-use Rattle.tl_ask.specs.Thin.{bare, thin, thin_commits, thin_loaded, thin_read}
+use Rattle.tl_journal.specs.Takes.{MeansDoing, MeansInside}
+use Rattle.tl_ask.specs.Thin.{bare, thin, thin_commits, thin_loaded}
 use Rattle.tl_node.specs.Seen.{settled, settled_by}
-use Rattle.tl_node.proofs.Alike.{after_thin, settled_elim}
+use Rattle.tl_node.proofs.Alike.{settled_elim}
 
 storing_says : (s : Storing) (l : Option Loaded) (left : List Write) (h : Heard) → says_storing s (thin_loaded l) left h ≡ says_storing s l left h
 storing_says s None left h = refl
@@ -37,23 +36,17 @@ finishing_says o committed (Some x) h = refl
 module _ (settings : Settings) (catalog : Catalog) (statement : Bound) (h : Heard) where
   -- ---- what it tells
 
-  reading_says : (n : Node) (t : Txn) (reads : Reads) (told : Answer)
-      → says_read n statement t (after_reply settings t.snapshot (record reads { left = thin_read reads.left }) (thin_read reads.left) h) told
-      ≡ says_read n statement t (after_reply settings t.snapshot reads reads.left h) told
-  reading_says n t reads told = ap (λ o. says_read n statement t o told) (after_thin settings t.snapshot reads reads.left h)
-
   inside_says : (commits : List Committed) (n : Node) (t : Txn) (course : Course) (told : Answer) → course_in catalog t.stage statement ≡ course
       → says_doing settings catalog commits n statement (thin (settled_by settings t course)) h told ≡ says_inside settings n statement t course h told
   inside_says commits n t course told e =
       settled_elim (λ d. says_doing settings catalog commits n statement (thin d) h told ≡ says_inside settings n statement t course h told) settings t course
       (ap (λ c. says_inside settings n statement t c h told) e)
-      (λ reads f. reading_says n t reads told ∙ ap (λ c. says_inside settings n statement t c h told) (sym f))
+      (λ reads f. ap (λ c. says_inside settings n statement t c h told) (sym f))
       (λ f empty one. ap (λ c. says_inside settings n statement t c h told) (sym f))
 
   pub doing_says : (commits : List Committed) (n : Node) (d : Doing) (told : Answer)
       → says_doing settings catalog commits n statement (thin (settled settings catalog statement d)) h told ≡ says_doing settings catalog commits n statement d h told
   doing_says commits n (Inside t) told = inside_says commits n t (course_in catalog t.stage statement) told refl
-  doing_says commits n (Reading t reads) told = reading_says n t reads told
   doing_says commits n (Stores s l) told = storing_says s l s.left h
   doing_says commits n (Closing t d c) told = closing_says t d c h
   doing_says commits n (Finishing c o committed x) told = finishing_says o committed x h
@@ -61,23 +54,17 @@ module _ (settings : Settings) (catalog : Catalog) (statement : Bound) (h : Hear
 
   -- ---- what it may mean
 
-  reading_means : (t : Txn) (reads : Reads) (told : Answer)
-      → MeansRead catalog statement t (after_reply settings t.snapshot (record reads { left = thin_read reads.left }) (thin_read reads.left) h) told
-      → MeansRead catalog statement t (after_reply settings t.snapshot reads reads.left h) told
-  reading_means t reads told m = subst (λ o. MeansRead catalog statement t o told) (after_thin settings t.snapshot reads reads.left h) m
-
   inside_means : (t : Txn) (course : Course) (told : Answer) → course_in catalog t.stage statement ≡ course
       → MeansDoing settings catalog statement (thin (settled_by settings t course)) h told → MeansInside settings catalog statement t course h told
   inside_means t course told e =
       settled_elim (λ d. MeansDoing settings catalog statement (thin d) h told → MeansInside settings catalog statement t course h told) settings t course
       (λ m. subst (λ c. MeansInside settings catalog statement t c h told) e m)
-      (λ reads f m. subst (λ c. MeansInside settings catalog statement t c h told) (sym f) (reading_means t reads told m))
+      (λ reads f m. subst (λ c. MeansInside settings catalog statement t c h told) (sym f) m)
       (λ f empty one m. subst (λ c. MeansInside settings catalog statement t c h told) (sym f) tt)
 
   pub doing_means : (d : Doing) (told : Answer) → MeansDoing settings catalog statement (thin (settled settings catalog statement d)) h told
       → MeansDoing settings catalog statement d h told
   doing_means (Inside t) told m = inside_means t (course_in catalog t.stage statement) told refl m
-  doing_means (Reading t reads) told m = reading_means t reads told m
   doing_means d told m = m
 
   -- ---- whether the reply is strange

@@ -12,15 +12,16 @@ use Rattle.tl_isolation.specs.declared.entry.Answer.{Answer}
 use Rattle.tl_isolation.specs.declared.entry.Answer.TheVariants as answer
 use Rattle.tl_isolation.specs.declared.entry.Said.{Said}
 use Rattle.tl_isolation.specs.declared.state.Commit.{Commit}
-use Rattle.tl_journal.specs.Ask.{Ask, Heard}
+use Rattle.tl_journal.specs.Ask.{Ask, Heard, Strange}
 use Rattle.tl_journal.specs.Asks.{asks}
 use Rattle.tl_journal.specs.Bytes.{heard}
 use Rattle.tl_journal.specs.Memory.{has_said, is_ending, unsaid}
 use Rattle.tl_journal.specs.Node.{Node, owed_by}
 use Rattle.tl_journal.specs.Says.{says_at}
-use Rattle.tl_journal.specs.Strange.{is_odd_for, is_stopped, is_strange}
+use Rattle.tl_journal.specs.Strange.{is_odd_for, is_stopped, is_strange, is_strange_to}
+use Rattle.tl_ask.specs.Given.{shown_heard}
 use Rattle.tl_journal.specs.Takes.{MayMean, takes}
-use Rattle.tl_node.specs.After.{IsTold, answer_in, heard_by, hears, marked, owed_left, said_so, statement_in}
+use Rattle.tl_node.specs.After.{IsTold, answer_in, heard_by, hears, marked, may_be_given, owed_left, said_so, statement_in, told_heard}
 use Rattle.tl_node.specs.Fits.{OwnSuitsNode}
 use Rattle.tl_node.specs.Seen.{seen}
 use Rattle.tl_node.specs.View.{NodeValue, StandsFor, asked_by}
@@ -28,6 +29,7 @@ use Rattle.tl_node.specs.declared.told.Rest.{Rest}
 use Rattle.tl_node.specs.declared.told.Rest.TheVariants as rest
 use Rattle.tl_node.proofs.Alike.{AreAlike}
 use Rattle.tl_node.proofs.AlikeNodes.{doing_alike, doing_hears}
+use Rattle.tl_node.proofs.Heard.{IsShown, is_shown}
 use Rattle.tl_node.proofs.AlikeSays.{doing_ending, doing_means, doing_odd, doing_owed, doing_says}
 
 module _ (settings : Settings) (catalog : Catalog) where
@@ -36,24 +38,24 @@ module _ (settings : Settings) (catalog : Catalog) where
 
   -- it hears the same
   hears_of : (n : Node) (todo : List Bound) (p : Reply)
-      → heard_by (asks settings catalog (seen settings catalog (record n { todo = todo }))) p ≡ heard_by (asks settings catalog (record n { todo = todo })) p
+      → heard_by catalog (asks settings catalog (seen settings catalog (record n { todo = todo }))) p ≡ heard_by catalog (asks settings catalog (record n { todo = todo })) p
   hears_of n [] p = refl
   hears_of n (statement ∷ later) p = doing_hears settings catalog (record n { todo = statement ∷ later }) statement n.doing p
 
-  pub hears_seen : (n : Node) (ask : Ask) (p : Reply) → asks settings catalog n ≡ Some ask → hears settings catalog (seen settings catalog n) p ≡ heard ask p
-  hears_seen n ask p asked = hears_of n n.todo p ∙ ap (λ a. heard_by a p) asked
+  pub hears_seen : (n : Node) (ask : Ask) (p : Reply) → asks settings catalog n ≡ Some ask → hears settings catalog (seen settings catalog n) p ≡ shown_heard catalog ask p
+  hears_seen n ask p asked = hears_of n n.todo p ∙ ap (λ a. heard_by catalog a p) asked
 
   -- it does the same
   alike_of : (n : Node) (todo : List Bound) (ask : Ask) (p : Reply) (told : Answer) → asks settings catalog (record n { todo = todo }) ≡ Some ask
-      → AreAlike settings catalog (takes settings catalog (seen settings catalog (record n { todo = todo })) (heard_by (asks settings catalog (record n { todo = todo })) p) told)
-      (takes settings catalog (record n { todo = todo }) (heard_by (asks settings catalog (record n { todo = todo })) p) told)
+      → AreAlike settings catalog (takes settings catalog (seen settings catalog (record n { todo = todo })) (heard_by catalog (asks settings catalog (record n { todo = todo })) p) told)
+      (takes settings catalog (record n { todo = todo }) (heard_by catalog (asks settings catalog (record n { todo = todo })) p) told)
   alike_of n [] ask p told asked = absurd (none_asked ask asked)
   alike_of n (statement ∷ later) ask p told asked = doing_alike settings catalog (record n { todo = statement ∷ later }) statement n.doing p told
 
   pub alike_seen : (n : Node) (ask : Ask) (p : Reply) (told : Answer) → asks settings catalog n ≡ Some ask
-      → AreAlike settings catalog (takes settings catalog (seen settings catalog n) (heard ask p) told) (takes settings catalog n (heard ask p) told)
+      → AreAlike settings catalog (takes settings catalog (seen settings catalog n) (shown_heard catalog ask p) told) (takes settings catalog n (shown_heard catalog ask p) told)
   alike_seen n ask p told asked =
-      subst (λ a. AreAlike settings catalog (takes settings catalog (seen settings catalog n) (heard_by a p) told) (takes settings catalog n (heard_by a p) told)) asked
+      subst (λ a. AreAlike settings catalog (takes settings catalog (seen settings catalog n) (heard_by catalog a p) told) (takes settings catalog n (heard_by catalog a p) told)) asked
       (alike_of n n.todo ask p told asked)
 
   -- it tells the same
@@ -86,12 +88,13 @@ module _ (settings : Settings) (catalog : Catalog) where
   neither false true e = cc
   neither true b e = cc
 
-  pub strange_seen : (n : Node) (ask : Ask) (p : Reply) (told : Answer) → asks settings catalog n ≡ Some ask → is_strange settings catalog n (heard ask p) told ≡ false
-      → is_strange settings catalog (seen settings catalog n) (heard ask p) told ≡ false
-  strange_seen n ask p told asked e =
-      let both = neither (is_stopped (takes settings catalog n (heard ask p) told).doing) (is_odd_for n.doing (heard ask p)) e in
-      or_from (is_stopped (takes settings catalog (seen settings catalog n) (heard ask p) told).doing) (is_odd_for (seen settings catalog n).doing (heard ask p))
-      ((alike_seen n ask p told asked).stopped_is ∙ both.0) (odd_of n n.todo ask (heard ask p) asked both.1)
+  pub strange_seen : (n : Node) (ask : Ask) (h : Heard) → asks settings catalog n ≡ Some ask
+      → AreAlike settings catalog (takes settings catalog (seen settings catalog n) h answer.Begun) (takes settings catalog n h answer.Begun)
+      → is_strange_to settings catalog n h ≡ false → is_strange_to settings catalog (seen settings catalog n) h ≡ false
+  strange_seen n ask h asked alike e =
+      let both = neither (is_stopped (takes settings catalog n h answer.Begun).doing) (is_odd_for n.doing h) e in
+      or_from (is_stopped (takes settings catalog (seen settings catalog n) h answer.Begun).doing) (is_odd_for (seen settings catalog n).doing h)
+      (alike.stopped_is ∙ both.0) (odd_of n n.todo ask h asked both.1)
 
   ending_of : (n : Node) (todo : List Bound) (ask : Ask) → asks settings catalog (record n { todo = todo }) ≡ Some ask
       → is_ending (seen settings catalog (record n { todo = todo })).doing ≡ is_ending n.doing
@@ -152,44 +155,57 @@ IsToldOf settings catalog n h told after m (rest.Said said) = OwnSuitsNode catal
 IsToldOf settings catalog n h told after m rest.Strange = ⊥
 IsToldOf settings catalog n h told after m rest.NoMemory = WantsAs settings catalog n h told m after
 
-module _ (settings : Settings) (catalog : Catalog) (n : Node) (ask : Ask) (p : Reply) (asked : asks settings catalog n ≡ Some ask) where
+module _ (settings : Settings) (catalog : Catalog) (n : Node) (ask : Ask) (p : Reply) (asked : asks settings catalog n ≡ Some ask)
+    (sane : is_strange settings catalog n ask p ≡ false) (v : NodeValue) (s : StandsFor settings catalog n v) where
   -- the node that its code sees, by what that hears
-  abbrev view : NodeValue → NodeValue
-  view v = record { settings = settings; catalog = catalog; session = v.session; node = seen settings catalog n; ask = v.ask }
+  abbrev view : NodeValue
+  view = record { settings = settings; catalog = catalog; session = v.session; node = seen settings catalog n; ask = v.ask }
 
-  h_is : hears settings catalog (seen settings catalog n) p ≡ heard ask p
-  h_is = hears_seen settings catalog n ask p asked
+  said_so_is : IsShown catalog ask p
+  said_so_is = is_shown settings catalog n ask p asked sane
 
-  stands_alike : (told : Answer) (v : NodeValue) → StandsFor settings catalog (takes settings catalog (seen settings catalog n) (hears settings catalog (seen settings catalog n) p) told) v
-      → StandsFor settings catalog (takes settings catalog n (heard ask p) told) v
-  stands_alike told v s =
-      let both = alike_seen settings catalog n ask p told asked in
+  h_is : told_heard view p ≡ heard ask p
+  h_is =
+      ap (λ a. if may_be_given a p then hears settings catalog (seen settings catalog n) p else Strange) (s.ask_is ∙ ap (asked_by settings) asked)
+      ∙ ap (λ (b : Bool). if b then hears settings catalog (seen settings catalog n) p else Strange) said_so_is.given
+      ∙ hears_seen settings catalog n ask p asked ∙ said_so_is.shown
+
+  alike : (told : Answer) → AreAlike settings catalog (takes settings catalog (seen settings catalog n) (heard ask p) told) (takes settings catalog n (heard ask p) told)
+  alike told =
+      subst (λ h. AreAlike settings catalog (takes settings catalog (seen settings catalog n) h told) (takes settings catalog n h told)) said_so_is.shown
+      (alike_seen settings catalog n ask p told asked)
+
+  stands_alike : (told : Answer) (after : NodeValue) → StandsFor settings catalog (takes settings catalog (seen settings catalog n) (told_heard view p) told) after
+      → StandsFor settings catalog (takes settings catalog n (heard ask p) told) after
+  stands_alike told after t =
+      let both = alike told in
       record {
-        settings_are = s.settings_are;
-        catalog_is = s.catalog_is;
-        node_is = s.node_is ∙ ap (λ h. seen settings catalog (takes settings catalog (seen settings catalog n) h told)) h_is ∙ both.seen_is;
-        ask_is = s.ask_is ∙ ap (λ h. asked_by settings (asks settings catalog (takes settings catalog (seen settings catalog n) h told))) h_is ∙ ap (asked_by settings) both.asks_is;
+        settings_are = t.settings_are;
+        catalog_is = t.catalog_is;
+        node_is = t.node_is ∙ ap (λ h. seen settings catalog (takes settings catalog (seen settings catalog n) h told)) h_is ∙ both.seen_is;
+        ask_is = t.ask_is ∙ ap (λ h. asked_by settings (asks settings catalog (takes settings catalog (seen settings catalog n) h told))) h_is ∙ ap (asked_by settings) both.asks_is;
       }
 
   says_alike : (commits : List Commit) (told : Answer)
-      → says_at settings catalog commits (seen settings catalog n) (hears settings catalog (seen settings catalog n) p) told ≡ says_at settings catalog commits n (heard ask p) told
+      → says_at settings catalog commits (seen settings catalog n) (told_heard view p) told ≡ says_at settings catalog commits n (heard ask p) told
   says_alike commits told = ap (λ h. says_at settings catalog commits (seen settings catalog n) h told) h_is ∙ says_seen settings catalog commits n (heard ask p) told
 
   marked_alike : (commits : List Commit) (m : Mark) → marked commits (seen settings catalog n).number p m ≡ marked commits n.number p m
   marked_alike commits m = ap (λ number. marked commits number p m) (number_seen settings catalog n)
 
-  not_strange : is_strange settings catalog n (heard ask p) answer.Begun ≡ false
-      → is_strange settings catalog (seen settings catalog n) (hears settings catalog (seen settings catalog n) p) answer.Begun ≡ false
-  not_strange e = ap (λ h. is_strange settings catalog (seen settings catalog n) h answer.Begun) h_is ∙ strange_seen settings catalog n ask p answer.Begun asked e
+  not_strange : is_strange_to settings catalog (seen settings catalog n) (told_heard view p) ≡ false
+  not_strange =
+      ap (λ h. is_strange_to settings catalog (seen settings catalog n) h) h_is
+      ∙ strange_seen settings catalog n ask (heard ask p) asked (alike answer.Begun)
+      (subst (λ h. is_strange_to settings catalog n h ≡ false) said_so_is.sound sane)
 
   both_ways : (b : Bool) → b ≡ true → b ≡ false → ⊥
   both_ways b e f = cc
 
-  pub told_of : (v after : NodeValue) (m : Mark) (r : Rest) → StandsFor settings catalog n v → is_strange settings catalog n (heard ask p) answer.Begun ≡ false
-      → IsTold v p after m r → IsToldOf settings catalog n (heard ask p) p after m r
-  told_of v after m r s sane t = by r (subst (λ x. IsTold x p after m r) (λ i. record { settings = s.settings_are i; catalog = s.catalog_is i; session = v.session; node = s.node_is i; ask = v.ask }) t)
+  pub told_of : (after : NodeValue) (m : Mark) (r : Rest) → IsTold v p after m r → IsToldOf settings catalog n (heard ask p) p after m r
+  told_of after m r t = by r (subst (λ x. IsTold x p after m r) (λ i. record { settings = s.settings_are i; catalog = s.catalog_is i; session = v.session; node = s.node_is i; ask = v.ask }) t)
     where
-      by : (r : Rest) → IsTold (view v) p after m r → IsToldOf settings catalog n (heard ask p) p after m r
+      by : (r : Rest) → IsTold view p after m r → IsToldOf settings catalog n (heard ask p) p after m r
       by rest.Going t = (stands_alike answer.Begun after t.0, λ commits. sym (says_alike commits answer.Begun) ∙ t.1 commits ∙ marked_alike commits m)
       by (rest.Said said) t = λ suits. let so = t suits in
           record {
@@ -200,30 +216,30 @@ module _ (settings : Settings) (catalog : Catalog) (n : Node) (ask : Ask) (p : R
                 ∙ ap (λ number. marked commits number p m ++ said_so number (statement_in (seen settings catalog n).todo) m said ∷ []) (number_seen settings catalog n)
                 ∙ ap (λ todo. marked commits n.number p m ++ said_so n.number (statement_in todo) m said ∷ []) (todo_seen settings catalog n);
           }
-      by rest.Strange t = both_ways (is_strange settings catalog (seen settings catalog n) (hears settings catalog (seen settings catalog n) p) answer.Begun) t.1 (not_strange sane)
+      by rest.Strange t = both_ways (is_strange_to settings catalog (seen settings catalog n) (told_heard view p)) t.1 not_strange
       by rest.NoMemory t =
           let stopped = t.0 in
           let wants = t.1 in
           record {
             number = stopped.number ∙ number_seen settings catalog n;
             owed = ap owed_by stopped.doing ∙ left;
-            entries = λ commits. either commits (wants.entries (not_strange sane) commits);
+            entries = λ commits. either commits (wants.entries not_strange commits);
           }
         where
-          left : owed_left settings catalog (seen settings catalog n) p ≡ owed_stopped settings catalog n (heard ask p)
+          left : owed_left settings catalog (seen settings catalog n) (told_heard view p) ≡ owed_stopped settings catalog n (heard ask p)
           left =
               ap (λ es. if has_said es then owed_by (seen settings catalog n).doing
-              else owed_by (takes settings catalog (seen settings catalog n) (hears settings catalog (seen settings catalog n) p) answer.Begun).doing)
+              else owed_by (takes settings catalog (seen settings catalog n) (told_heard view p) answer.Begun).doing)
               (says_alike [] answer.Begun)
               ∙ ap (λ o. if has_said (says_at settings catalog [] n (heard ask p) answer.Begun) then o
-              else owed_by (takes settings catalog (seen settings catalog n) (hears settings catalog (seen settings catalog n) p) answer.Begun).doing)
+              else owed_by (takes settings catalog (seen settings catalog n) (told_heard view p) answer.Begun).doing)
               (owed_seen settings catalog n ask asked)
               ∙ ap (λ o. if has_said (says_at settings catalog [] n (heard ask p) answer.Begun) then owed_by n.doing else o)
-              (ap (λ h. owed_by (takes settings catalog (seen settings catalog n) h answer.Begun).doing) h_is ∙ (alike_seen settings catalog n ask p answer.Begun asked).owed_is)
+              (ap (λ h. owed_by (takes settings catalog (seen settings catalog n) h answer.Begun).doing) h_is ∙ (alike answer.Begun).owed_is)
 
           either : (commits : List Commit)
-              → (unsaid (says_at settings catalog commits (seen settings catalog n) (hears settings catalog (seen settings catalog n) p) answer.Begun) ≡ marked commits (seen settings catalog n).number p m)
-              ⊎ (says_at settings catalog commits (seen settings catalog n) (hears settings catalog (seen settings catalog n) p) answer.Begun ≡ marked commits (seen settings catalog n).number p m)
+              → (unsaid (says_at settings catalog commits (seen settings catalog n) (told_heard view p) answer.Begun) ≡ marked commits (seen settings catalog n).number p m)
+              ⊎ (says_at settings catalog commits (seen settings catalog n) (told_heard view p) answer.Begun ≡ marked commits (seen settings catalog n).number p m)
               → (unsaid (says_at settings catalog commits n (heard ask p) answer.Begun) ≡ marked commits n.number p m)
               ⊎ (says_at settings catalog commits n (heard ask p) answer.Begun ≡ marked commits n.number p m)
           either commits (inl e) = inl (ap unsaid (sym (says_alike commits answer.Begun)) ∙ e ∙ marked_alike commits m)

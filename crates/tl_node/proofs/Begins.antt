@@ -19,7 +19,7 @@ use Rattle.tl_journal.specs.Memory.{unsaid}
 use Rattle.tl_journal.specs.Node.{Noted, Inside, Node}
 use Rattle.tl_journal.specs.Says.{says_at}
 use Rattle.tl_journal.specs.Takes.{takes}
-use Rattle.tl_ask.specs.Hears.{hears_manager}
+use Rattle.tl_node.specs.Hears.{manager_says}
 use Rattle.tl_txn.specs.Doing.{txn_in}
 use Rattle.tl_txn.specs.Taken.{opened}
 use Rattle.tl_txn.specs.declared.phase.Phase.{Phase}
@@ -104,11 +104,11 @@ module _ (old new : Core) (seen : TidSet) (later : List Bound) (tid : ℕ) (snap
 
 abbrev BegunBy : Core → Core → TidSet → Reply → Result Next NoMemory → List Bound → Type 0
 BegunBy old new seen told result todo =
-    ComesTo old.layout old.catalog (at_todo old todo (Noted seen)) (hears_manager told) told new (began_mark told) result
+    ComesTo old.layout old.catalog (at_todo old todo (Noted seen)) (manager_says told) told new (began_mark told) result
 
 pub begun_comes : (old new : Core) (txn : Txn) (told : Reply) (seen : TidSet) (result : Result Next NoMemory) (present : HasPresent old (λ statement. Unit {0})) (begun : HasBegun txn told)
-    (floor : TidSet) → began_floor (hears_manager told) ≡ Some floor → EntersBy present.statement old floor txn.phase new result
-    → ComesTo old.layout old.catalog (node_so old (Noted seen)) (hears_manager told) told new (began_mark told) result
+    (floor : TidSet) → began_floor (manager_says told) ≡ Some floor → EntersBy present.statement old floor txn.phase new result
+    → ComesTo old.layout old.catalog (node_so old (Noted seen)) (manager_says told) told new (began_mark told) result
 begun_comes old new txn told seen result present begun floor heard on =
     subst (BegunBy old new seen told result) (sym present.todo_is)
     (subst (λ (r : Reply). BegunBy old new seen r result (present.statement ∷ present.later)) (sym begun.told_is)
@@ -117,8 +117,8 @@ begun_comes old new txn told seen result present begun floor heard on =
     (subst (λ (p : Phase). EntersBy present.statement old floor p new result) begun.phase_is on))))
   where
     same : floor ≡ begun.floor
-    same = let e : ◌≡◌ {A = Option TidSet} (Some begun.floor) (Some floor) = subst (λ (r : Reply). began_floor (hears_manager r) ≡ Some floor) begun.told_is heard in cc
+    same = let e : ◌≡◌ {A = Option TidSet} (Some begun.floor) (Some floor) = subst (λ (r : Reply). began_floor (manager_says r) ≡ Some floor) begun.told_is heard in cc
 
-pub not_strange : (txn : Txn) (told : Reply) → HasBegun txn told → began_floor (hears_manager told) ≡ None → ⊥
+pub not_strange : (txn : Txn) (told : Reply) → HasBegun txn told → began_floor (manager_says told) ≡ None → ⊥
 not_strange txn told begun none =
-    let e : ◌≡◌ {A = Option TidSet} (Some begun.floor) None = subst (λ (r : Reply). began_floor (hears_manager r) ≡ None) begun.told_is none in cc
+    let e : ◌≡◌ {A = Option TidSet} (Some begun.floor) None = subst (λ (r : Reply). began_floor (manager_says r) ≡ None) begun.told_is none in cc

@@ -7,7 +7,8 @@ use Rattle.tl_manager.specs.declared.request.Reply.{Reply}
 use Rattle.tl_isolation.specs.declared.bound.Bound.{Bound}
 use Rattle.tl_journal.specs.Ask.{Heard}
 use Rattle.tl_journal.specs.Asks.{Course as TheCourse, ToIdle, asks_inside, course_in}
-use Rattle.tl_journal.specs.Bytes.{heard, home_of}
+use Rattle.tl_journal.specs.Bytes.{home_of}
+use Rattle.tl_ask.specs.Given.{shown_heard}
 use Rattle.tl_journal.specs.Node.{Inside, Node}
 use Rattle.tl_ask.specs.Hears.{hears_manager}
 use Rattle.tl_ask.specs.declared.asked.Asked.{Asked}
@@ -18,6 +19,7 @@ use Rattle.tl_txn.specs.declared.phase.Open.{Open}
 use Rattle.tl_txn.specs.declared.phase.Phase.{Phase}
 use Rattle.tl_txn.specs.declared.phase.Phase.TheVariants as phase
 use Rattle.tl_txn.specs.declared.txn.Txn.{Txn}
+use Rattle.tl_node.proofs.Heard.{manager_alike}
 use Rattle.tl_node.specs.After.{ComesTo, IsAfter, at_todo, hears}
 use Rattle.tl_node.specs.Fits.{FitsAll, FitsRunning, HasPresent, IsFit, IsOwn, IsReadyWith}
 use Rattle.tl_node.specs.View.{doing_so, node_at, node_so, stage_of}
@@ -29,7 +31,7 @@ use Rattle.tl_node.specs.declared.work.Running.{Running}
 use Rattle.tl_node.specs.declared.work.Stage.TheVariants as stage
 use Rattle.tl_node.specs.declared.work.Work.{Work}
 use Rattle.tl_node.specs.declared.work.Work.TheVariants as work
-use Rattle.tl_node.proofs.BeginAfter.{first_run, manager_alike, running_present}
+use Rattle.tl_node.proofs.BeginAfter.{first_run, running_present}
 
 module _ (core : Core) (r : Running) where
   abbrev pub on : Course → Work
@@ -103,8 +105,8 @@ module _ (core : Core) (r : Running) (a : Asked) (e : r.course ≡ way.Idles a) 
   hears_idle live statement later told to =
       ap
       (λ (c : TheCourse).
-      heard (asks_inside core.layout (at_todo core (statement ∷ later) (Inside (txn_in (stage_of r.stage) live))) (txn_in (stage_of r.stage) live) c) told) to
-      ∙ manager_alike (home_of core.layout core.number) (request.Floor live.snapshot) told
+      shown_heard core.catalog (asks_inside core.layout (at_todo core (statement ∷ later) (Inside (txn_in (stage_of r.stage) live))) (txn_in (stage_of r.stage) live) c) told) to
+      ∙ manager_alike core.catalog (home_of core.layout core.number) (request.Floor live.snapshot) told
 
   pub after_idle : (told : Reply) (new : Core) (m : Mark) (result : Result Next NoMemory)
       → ((live : Open) → r.txn.phase ≡ phase.Ready live

@@ -28,12 +28,12 @@ use Rattle.tl_protocol.specs.Next.{end_answer, log_cell, own_version}
 use Rattle.tl_protocol.specs.World as protocol
 use Rattle.tl_journal.specs.Ask.{Ask, Heard}
 use Rattle.tl_journal.specs.Asks.{asks, asks_doing, asks_removing, asks_storing}
-use Rattle.tl_journal.specs.Bytes.{heard}
+use Rattle.tl_ask.specs.Given.{shown_heard}
 use Rattle.tl_journal.specs.Memory.{is_ending, unsaid}
 use Rattle.tl_journal.specs.Node.{Doing, Outside, Inside, Node}
 use Rattle.tl_journal.specs.Node as law
 use Rattle.tl_journal.specs.Says.{says_at}
-use Rattle.tl_journal.specs.Strange.{is_strange}
+use Rattle.tl_journal.specs.Strange.{is_strange_to}
 use Rattle.tl_journal.specs.Takes.{takes_doing, with_doing}
 use Rattle.tl_ask.specs.Thin.{loaded_if, thin}
 use Rattle.tl_txn.specs.After.{IsKnown, IsTaken, IsTold, Stops, asked_next, does}
@@ -70,7 +70,8 @@ use Rattle.tl_node.specs.declared.work.Work.{Work}
 use Rattle.tl_node.specs.declared.work.Work.TheVariants as work
 use Rattle.tl_node.proofs.EndMarks.{GoesTo, IsBehind, StepsTo, is_finished, takes_fit}
 use Rattle.tl_node.proofs.Opening.{node_with, none_left, same_node, some_left}
-use Rattle.tl_node.proofs.Recovering.{is_inside, loaded_record, settled_same, stored_commits, stored_log, stored_record}
+use Rattle.tl_node.proofs.Recovering.{is_inside, settled_same}
+use Rattle.tl_node.proofs.Heard.{commits_shown, stored_commits, stored_log, stored_record}
 
 -- ---- what it hears
 
@@ -95,25 +96,25 @@ module _ {A : Type 0} where
       by true e = sym (none_at i (take n xs) (drop_of_length-le (take n xs) {i = i} (let h : n ≤ i = grind (arith, nat_tests) in omega (arith, length-take n xs))))
       by false e = sym (slice_get-take n xs i (grind (arith, nat_tests)))
 
-storing_heard : (m : Node) (so : law.Storing) (loaded : Bool) (own : List Write) (at : ℕ) (told : Reply) → so.left ≡ drop at own
-    → heard (asks_storing m so (loaded_if loaded)) told ≡ awaited.hears_own loaded (slice_get own at) told
-storing_heard m so true own at told l = stored_record [] 0 (prune (least_of m.floors) (own_version [] so.txn ∷ [])) told
-storing_heard m so false own at told l = by (slice_get own at) refl
+storing_heard : (catalog : Catalog) (m : Node) (so : law.Storing) (loaded : Bool) (own : List Write) (at : ℕ) (told : Reply) → so.left ≡ drop at own
+    → shown_heard catalog (asks_storing m so (loaded_if loaded)) told ≡ awaited.hears_own catalog loaded (slice_get own at) told
+storing_heard catalog m so true own at told l = stored_record catalog [] 0 (prune (least_of m.floors) (own_version [] so.txn ∷ [])) told
+storing_heard catalog m so false own at told l = by (slice_get own at) refl
   where
-    by : (o : Option Write) → slice_get own at ≡ o → heard (asks_storing m so None) told ≡ awaited.hears_own false o told
-    by None e = ap (λ left. heard (asks_storing m (record so { left = left }) None) told) (l ∙ none_left at own e)
-        ∙ stored_log so.log (log_cell 0 m.number flag.Decided so.txn).entry told
-    by (Some o) e = ap (λ left. heard (asks_storing m (record so { left = left }) None) told) (l ∙ some_left at own o e) ∙ loaded_record o.key told
+    by : (o : Option Write) → slice_get own at ≡ o → shown_heard catalog (asks_storing m so None) told ≡ awaited.hears_own catalog false o told
+    by None e = ap (λ left. shown_heard catalog (asks_storing m (record so { left = left }) None) told) (l ∙ none_left at own e)
+        ∙ stored_log catalog so.log (log_cell 0 m.number flag.Decided so.txn).entry told
+    by (Some o) e = ap (λ left. shown_heard catalog (asks_storing m (record so { left = left }) None) told) (l ∙ some_left at own o e)
 
-removing_heard : (m : Node) (so : law.Removing) (loaded : Bool) (own : List Write) (at : ℕ) (told : Reply) → so.left ≡ drop at own
-    → heard (asks_removing m so (loaded_if loaded)) told ≡ awaited.hears_own loaded (slice_get own at) told
-removing_heard m so true own at told l = stored_record [] 0 (strip so.txn.tid []) told
-removing_heard m so false own at told l = by (slice_get own at) refl
+removing_heard : (catalog : Catalog) (m : Node) (so : law.Removing) (loaded : Bool) (own : List Write) (at : ℕ) (told : Reply) → so.left ≡ drop at own
+    → shown_heard catalog (asks_removing m so (loaded_if loaded)) told ≡ awaited.hears_own catalog loaded (slice_get own at) told
+removing_heard catalog m so true own at told l = stored_record catalog [] 0 (strip so.txn.tid []) told
+removing_heard catalog m so false own at told l = by (slice_get own at) refl
   where
-    by : (o : Option Write) → slice_get own at ≡ o → heard (asks_removing m so None) told ≡ awaited.hears_own false o told
-    by None e = ap (λ left. heard (asks_removing m (record so { left = left }) None) told) (l ∙ none_left at own e)
-        ∙ stored_log so.log (log_cell 0 m.number flag.Undone so.txn).entry told
-    by (Some o) e = ap (λ left. heard (asks_removing m (record so { left = left }) None) told) (l ∙ some_left at own o e) ∙ loaded_record o.key told
+    by : (o : Option Write) → slice_get own at ≡ o → shown_heard catalog (asks_removing m so None) told ≡ awaited.hears_own catalog false o told
+    by None e = ap (λ left. shown_heard catalog (asks_removing m (record so { left = left }) None) told) (l ∙ none_left at own e)
+        ∙ stored_log catalog so.log (log_cell 0 m.number flag.Undone so.txn).entry told
+    by (Some o) e = ap (λ left. shown_heard catalog (asks_removing m (record so { left = left }) None) told) (l ∙ some_left at own o e)
 
 -- ---- by the phases that lie ahead
 
@@ -196,7 +197,7 @@ module _ (keeps : KeepsSo) (going : GoesOn) (tells_so : TellsSo) (stops_so : Sto
   n = node_with core (statement ∷ later) (doing_of st now)
 
   abbrev pub sound : Heard
-  sound = awaited.hears now told
+  sound = awaited.hears core.catalog now told
 
   abbrev pub outcome : code.Taken
   outcome = code.takes core.layout core.number now sound
@@ -208,22 +209,22 @@ module _ (keeps : KeepsSo) (going : GoesOn) (tells_so : TellsSo) (stops_so : Sto
   hears_end = by now ends unfinished suits_n
     where
       by : (p : Phase) → IsEnding p → is_finished p ≡ false → Suits core.catalog n statement st p
-          → heard_by (asks_doing core.layout core.catalog n statement (doing_of st p)) told ≡ awaited.hears p told
-      by (phase.TryingNothing live) e f h = ap (λ a. heard_by a told) (commits_nothing core.layout core.catalog n statement (txn_in st live) h e)
-      by (phase.GivingUp live) e f h = ap (λ a. heard_by a told) (gives_up core.layout core.catalog n statement (txn_in st live) h)
-      by (phase.Trying a) e f h = stored_log 0 (log_cell 0 core.number flag.Trying (txn_of st a)).entry told
-      by (phase.Storing s) e f h = storing_heard n (storing_of st s) s.loaded s.attempt.own s.stored told refl
-      by (phase.Removing r) e f h = removing_heard n (removing_of st r) r.loaded (take r.stored r.attempt.own) r.removed told refl
-          ∙ ap (λ o. awaited.hears_own r.loaded o told) (sym (among_first r.stored r.attempt.own r.removed))
-      by (phase.Closing tid d false) e f h = refl
-      by (phase.Closing tid d true) e f h = stored_commits 0 (inserted opening_copy tid) told
+          → heard_by core.catalog (asks_doing core.layout core.catalog n statement (doing_of st p)) told ≡ awaited.hears core.catalog p told
+      by (phase.TryingNothing live) e f h = ap (λ a. heard_by core.catalog a told) (commits_nothing core.layout core.catalog n statement (txn_in st live) h e) ∙ commits_shown core.catalog told
+      by (phase.GivingUp live) e f h = ap (λ a. heard_by core.catalog a told) (gives_up core.layout core.catalog n statement (txn_in st live) h) ∙ commits_shown core.catalog told
+      by (phase.Trying a) e f h = stored_log core.catalog 0 (log_cell 0 core.number flag.Trying (txn_of st a)).entry told
+      by (phase.Storing s) e f h = storing_heard core.catalog n (storing_of st s) s.loaded s.attempt.own s.stored told refl
+      by (phase.Removing r) e f h = removing_heard core.catalog n (removing_of st r) r.loaded (take r.stored r.attempt.own) r.removed told refl
+          ∙ ap (λ o. awaited.hears_own core.catalog r.loaded o told) (sym (among_first r.stored r.attempt.own r.removed))
+      by (phase.Closing tid d false) e f h = commits_shown core.catalog told
+      by (phase.Closing tid d true) e f h = stored_commits core.catalog 0 (inserted opening_copy tid) told
       by (phase.Ending tid d) e f h = absurd cc
       by other e f h = absurd e
 
   may_hear : MayHear now sound
   may_hear = by now
     where
-      by : (p : Phase) → MayHear p (awaited.hears p told)
+      by : (p : Phase) → MayHear p (awaited.hears core.catalog p told)
       by (phase.TryingNothing live) = hears_commits told
       by other = tt
 
@@ -305,7 +306,7 @@ module _ (keeps : KeepsSo) (going : GoesOn) (tells_so : TellsSo) (stops_so : Sto
     record { no_end = no_end st now unfinished; entries = λ usual commits. inr (tells_marked commits m e) },
   )
 
-  strange_so : outcome.step ≡ None → is_strange core.layout core.catalog n sound answer.Begun ≡ true
+  strange_so : outcome.step ≡ None → is_strange_to core.layout core.catalog n sound ≡ true
   strange_so e = stops_so core.layout core.catalog n statement st now (doing_of st now) sound answer.Begun suits_n (keeps st now) in_hand may_hear e
 
   pub stops : outcome.step ≡ None → ComesTo core.layout core.catalog n sound told core mark.Quiet (Ok next.Strange)
@@ -325,10 +326,10 @@ module _ (keeps : KeepsSo) (going : GoesOn) (tells_so : TellsSo) (stops_so : Sto
       both true e f = cc
       both false e f = cc
 
-      by : (s : Option TxnStep) → outcome.step ≡ s → IsTold s m → is_strange core.layout core.catalog n sound answer.Begun ≡ false → (commits : List Committed)
+      by : (s : Option TxnStep) → outcome.step ≡ s → IsTold s m → is_strange_to core.layout core.catalog n sound ≡ false → (commits : List Committed)
           → (unsaid (says_at core.layout core.catalog commits n sound answer.Begun) ≡ marked commits core.number told m)
           ⊎ (says_at core.layout core.catalog commits n sound answer.Begun ≡ marked commits core.number told m)
-      by None e h usual commits = absurd (both (is_strange core.layout core.catalog n sound answer.Begun) (strange_so e) usual)
+      by None e h usual commits = absurd (both (is_strange_to core.layout core.catalog n sound) (strange_so e) usual)
       by (Some (step.Going x)) e h usual commits =
           known commits core.number told (says_at core.layout core.catalog commits n sound answer.Begun) x m
           (marked_so commits core.number told x outcome.phase (goes_to x e)) (tells commits x e) h
@@ -376,18 +377,18 @@ unfinished_so core stage other h = refl
 
 module _ (law : EndLaw) (core : Core) (txn after : Txn) (stage : Stage) (told : Reply) (made : Option TxnStep)
     (fits : IsFit core (work.Runs (record { txn = txn; stage = stage; course = course.Ends None })))
-    (heeded : IsTaken txn.layout (code.takes txn.layout txn.node txn.phase (awaited.hears txn.phase told)) (record { phase = after.phase; next = after.next; step = made }))
+    (heeded : IsTaken txn.layout (code.takes txn.layout txn.node txn.phase (awaited.hears core.catalog txn.phase told)) (record { phase = after.phase; next = after.next; step = made }))
     (same_run : IsSameRun txn after) where
   abbrev pub w_before : Work
   w_before = work.Runs (record { txn = txn; stage = stage; course = course.Ends None })
 
   abbrev pub outcome_of : code.Taken
-  outcome_of = code.takes core.layout core.number txn.phase (awaited.hears txn.phase told)
+  outcome_of = code.takes core.layout core.number txn.phase (awaited.hears core.catalog txn.phase told)
 
   at_end : (new : Core) (m : Mark) (result : Result Next NoMemory)
       → ((statement : Bound) (later : List Bound) → drop (length core.answers.items) core.statements ≡ statement ∷ later → IsEnding txn.phase → is_finished txn.phase ≡ false
       → Suits core.catalog (node_so core Outside) statement (stage_of stage) txn.phase → HasInHand txn.phase → txn.layout ≡ core.layout → txn.node ≡ core.number
-      → ComesTo core.layout core.catalog (node_with core (statement ∷ later) (doing_of (stage_of stage) txn.phase)) (awaited.hears txn.phase told) told new m result)
+      → ComesTo core.layout core.catalog (node_with core (statement ∷ later) (doing_of (stage_of stage) txn.phase)) (awaited.hears core.catalog txn.phase told) told new m result)
       → IsAfter core.layout core.catalog (node_at core w_before) told new m result
   at_end new m result h = by (drop (length core.answers.items) core.statements) refl fits
     where
@@ -404,8 +405,8 @@ module _ (law : EndLaw) (core : Core) (txn after : Txn) (stage : Stage) (told : 
   taken_is : txn.layout ≡ core.layout → txn.node ≡ core.number
       → IsTaken core.layout outcome_of (record { phase = after.phase; next = after.next; step = made })
   taken_is e f =
-      subst (λ l. IsTaken l (code.takes l core.number txn.phase (awaited.hears txn.phase told)) (record { phase = after.phase; next = after.next; step = made })) e
-      (subst (λ k. IsTaken txn.layout (code.takes txn.layout k txn.phase (awaited.hears txn.phase told)) (record { phase = after.phase; next = after.next; step = made })) f heeded)
+      subst (λ l. IsTaken l (code.takes l core.number txn.phase (awaited.hears core.catalog txn.phase told)) (record { phase = after.phase; next = after.next; step = made })) e
+      (subst (λ k. IsTaken txn.layout (code.takes txn.layout k txn.phase (awaited.hears core.catalog txn.phase told)) (record { phase = after.phase; next = after.next; step = made })) f heeded)
 
   does_so : (s : TxnStep) → made ≡ Some s → txn.layout ≡ core.layout → txn.node ≡ core.number
       → IsTaken core.layout outcome_of (record { phase = after.phase; next = after.next; step = Some s })

@@ -18,7 +18,7 @@ use Rattle.tl_journal.specs.Asks.{Course, ToIdle, course_in}
 use Rattle.tl_journal.specs.Memory.{unsaid}
 use Rattle.tl_journal.specs.Node.{Inside, Node}
 use Rattle.tl_journal.specs.Says.{says_at, says_idle, says_inside}
-use Rattle.tl_journal.specs.Strange.{is_odd_for, is_stopped, is_strange}
+use Rattle.tl_journal.specs.Strange.{is_odd_for, is_stopped, is_strange_to}
 use Rattle.tl_journal.specs.Takes.{stopped, takes_idle, takes_inside}
 use Rattle.tl_ask.specs.Hears.{hears_manager}
 use Rattle.tl_txn.specs.Doing.{txn_in}
@@ -50,7 +50,7 @@ unsaid_idle n (bound.Recover gone) t floor told = refl
 unsaid_idle n statement t floor told = refl
 
 module _ (old : Core) (statement : Bound) (later : List Bound) (t : Txn) (e : course_in old.catalog t.stage statement ≡ ToIdle) where
-  strange_idle : (sound : Heard) → floor_heard sound ≡ None → is_strange old.layout old.catalog (at_todo old (statement ∷ later) (Inside t)) sound answer.Begun ≡ true
+  strange_idle : (sound : Heard) → floor_heard sound ≡ None → is_strange_to old.layout old.catalog (at_todo old (statement ∷ later) (Inside t)) sound ≡ true
   strange_idle sound none =
       ap
       (λ (c : Course).

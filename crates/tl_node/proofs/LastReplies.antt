@@ -40,7 +40,7 @@ use Rattle.tl_node.specs.declared.work.Stage.{Stage}
 use Rattle.tl_node.specs.declared.work.Work.{Work}
 use Rattle.tl_node.specs.declared.work.Work.TheVariants as work
 use Rattle.tl_node.proofs.Opening.{left_fits, left_stands, node_with}
-use Rattle.tl_node.proofs.OutsideReplies.{told_alike}
+use Rattle.tl_node.proofs.Heard.{manager_alike}
 
 ended_told : (sound : Heard) → is_ended sound ≡ true → sound ≡ Told manager.Ended
 ended_told (Told manager.Ended) e = refl
@@ -92,11 +92,11 @@ module _ (core : Core) (statement : Bound) (later : List Bound) (tid : ℕ) (a :
   ended : (new : Core) (x : Next) → is_ended (hears_manager told) ≡ true → EndsWith core last new x
       → IsAfter core.layout core.catalog n told new mark.Answered (Ok x)
   ended new x h e = subst (λ sound. ComesTo core.layout core.catalog n sound told new mark.Answered (Ok x))
-      (sym (told_alike (home_of core.layout core.number) (request.End tid) told ∙ ended_told (hears_manager told) h)) (ends_with new x e)
+      (sym (manager_alike core.catalog (home_of core.layout core.number) (request.End tid) told ∙ ended_told (hears_manager told) h)) (ends_with new x e)
 
   unended : is_ended (hears_manager told) ≡ false → IsAfter core.layout core.catalog n told core mark.Quiet (Ok next.Strange)
   unended h = subst (λ sound. ComesTo core.layout core.catalog n sound told core mark.Quiet (Ok next.Strange))
-      (sym (told_alike (home_of core.layout core.number) (request.End tid) told))
+      (sym (manager_alike core.catalog (home_of core.layout core.number) (request.End tid) told))
       (record { left = refl; answers = refl }, ap (λ (m : Node). is_stopped m.doing || false) (stops_ending n a (hears_manager told) h))
 
 module _ (core : Core) (txn : Txn) (stage : Stage) (last : Last) (told : Reply)

@@ -8,6 +8,7 @@ mod Begins
 mod Answered
 mod Found
 mod IdleAfter
+mod Heard
 mod Heeds
 mod Idling
 mod Leads

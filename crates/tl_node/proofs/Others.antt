@@ -9,18 +9,17 @@ use Rattle.tl_manager.specs.declared.mark.Mark.TheVariants as mark
 use Rattle.tl_manager.specs.declared.request.ManagerReply.TheVariants as manager
 use Rattle.tl_manager.specs.declared.request.ManagerRequest.TheVariants as request
 use Rattle.tl_manager.specs.declared.request.Reply.{Reply}
-use Rattle.tl_manager.specs.declared.request.Reply.TheVariants as reply
 use Rattle.tl_isolation.specs.declared.bound.Bound.{Bound}
 use Rattle.tl_isolation.specs.declared.entry.Answer.TheVariants as answer
 use Rattle.tl_isolation.specs.declared.state.Commit.{Commit as Committed}
 use Rattle.tl_protocol.specs.Move.{is_empty}
 use Rattle.tl_protocol.specs.World as protocol
-use Rattle.tl_journal.specs.Ask.{LoadCommits, StoreLog, AskManager, Told}
+use Rattle.tl_journal.specs.Ask.{LoadCommits, StoreLog, AskManager, Heard, Told, Strange}
 use Rattle.tl_journal.specs.Asks.{ToCommit, asks, asks_inside, course_in, other_manager, store_trying}
-use Rattle.tl_journal.specs.Bytes.{heard}
+use Rattle.tl_ask.specs.Given.{shown_heard}
 use Rattle.tl_journal.specs.Node.{Doing, Outside, Inside, Trying, Node}
 use Rattle.tl_journal.specs.Says.{says_at, says_inside}
-use Rattle.tl_journal.specs.Strange.{is_odd_for, is_stopped, is_strange}
+use Rattle.tl_journal.specs.Strange.{is_odd_for, is_stopped, is_strange_to}
 use Rattle.tl_journal.specs.Takes.{takes, takes_commit, takes_inside}
 use Rattle.tl_ask.specs.Asked.{asked}
 use Rattle.tl_ask.specs.Hears.{hears_manager}
@@ -47,7 +46,8 @@ use Rattle.tl_node.specs.declared.work.Stage.{Stage}
 use Rattle.tl_node.specs.declared.work.Work.{Work}
 use Rattle.tl_node.specs.declared.work.Work.TheVariants as work
 use Rattle.tl_node.proofs.Opening.{node_with, same_node}
-use Rattle.tl_node.proofs.OutsideReplies.{floor_told, told_alike}
+use Rattle.tl_node.proofs.OutsideReplies.{floor_told}
+use Rattle.tl_node.proofs.Heard.{IsOfManager, manager_alike, of_manager}
 
 -- a transaction that is to commit what it wrote, once another manager has told its low-water mark
 pub record IsWaiting (core : Core) (statement : Bound) (stage : protocol.Stage) (m : ℕ) (now : Phase) : Type 0 where
@@ -78,26 +78,27 @@ module _ (core : Core) (statement : Bound) (later : List Bound) (stage : Stage) 
   n = node_with core (statement ∷ later) (Inside (txn_in st live))
 
   hears_other : is_empty live.own ≡ false → nat_le core.layout.managers 1 ≡ false → hears core.layout core.catalog n told ≡ hears_manager told
-  hears_other e f = ap (λ c. heard (asks_inside core.layout n (txn_in st live) c) told) course_is
+  hears_other e f = ap (λ c. shown_heard core.catalog (asks_inside core.layout n (txn_in st live) c) told) course_is
       ∙ by (is_empty live.own) (nat_le core.layout.managers 1) e f
     where
       by : (a b : Bool) → a ≡ false → b ≡ false
-          → heard (if a then LoadCommits else (if b then store_trying n (txn_in st live) else AskManager (other_manager core.layout n) (request.Floor live.snapshot))) told
+          → shown_heard core.catalog (if a then LoadCommits else (if b then store_trying n (txn_in st live) else AskManager (other_manager core.layout n) (request.Floor live.snapshot))) told
           ≡ hears_manager told
-      by false false e f = told_alike (other_manager core.layout n) (request.Floor live.snapshot) told
+      by false false e f = manager_alike core.catalog (other_manager core.layout n) (request.Floor live.snapshot) told
       by true b e f = cc
       by false true e f = cc
 
   -- where no low-water mark is told
-  stops_other : floor_heard (hears_manager told) ≡ None → is_strange core.layout core.catalog n (hears_manager told) answer.Begun ≡ true
+  stops_other : floor_heard (hears_manager told) ≡ None → is_strange_to core.layout core.catalog n (hears_manager told) ≡ true
   stops_other e = ap (λ c. is_stopped (takes_inside core.layout core.catalog n statement (txn_in st live) c (hears_manager told) answer.Begun).doing
-      || is_odd_for (Inside (txn_in st live)) (hears_manager told)) course_is ∙ by told e
+      || is_odd_for (Inside (txn_in st live)) (hears_manager told)) course_is ∙ by (hears_manager told) (of_manager told) e
     where
-      by : (told : Reply) → floor_heard (hears_manager told) ≡ None
-          → (is_stopped (takes_commit core.layout n (txn_in st live) (hears_manager told)).doing || is_odd_for (Inside (txn_in st live)) (hears_manager told)) ≡ true
-      by (reply.Store t) e = refl
-      by (reply.Manager (manager.FloorIs floor)) e = cc
-      by (reply.Manager other) e = refl
+      by : (sound : Heard) → IsOfManager sound → floor_heard sound ≡ None
+          → (is_stopped (takes_commit core.layout n (txn_in st live) sound).doing || is_odd_for (Inside (txn_in st live)) sound) ≡ true
+      by (Told (manager.FloorIs floor)) m e = cc
+      by (Told other) m e = refl
+      by Strange m e = refl
+      by other m e = absurd m
 
   pub other_stops : floor_heard (hears_manager told) ≡ None → ComesTo core.layout core.catalog n (hears_manager told) told core mark.Quiet (Ok next.Strange)
   other_stops e = (record { left = refl; answers = refl }, stops_other e)

@@ -9,19 +9,18 @@ use Rattle.tl_manager.specs.State.{opening_copy}
 use Rattle.tl_manager.specs.declared.mark.Mark.{Mark}
 use Rattle.tl_manager.specs.declared.mark.Mark.TheVariants as mark
 use Rattle.tl_manager.specs.declared.request.ManagerReply.TheVariants as manager
-use Rattle.tl_manager.specs.declared.request.ManagerRequest.{ManagerRequest}
 use Rattle.tl_manager.specs.declared.request.ManagerRequest.TheVariants as request
 use Rattle.tl_manager.specs.declared.request.Reply.{Reply}
-use Rattle.tl_manager.specs.declared.request.Reply.TheVariants as reply
 use Rattle.tl_isolation.specs.declared.bound.Bound.{Bound}
 use Rattle.tl_isolation.specs.declared.bound.Bound.TheVariants as bound
 use Rattle.tl_isolation.specs.declared.entry.Answer.TheVariants as answer
 use Rattle.tl_journal.specs.Ask.{AskManager, Heard, Told}
 use Rattle.tl_journal.specs.Asks.{Course, ToIdle, ToRecover, asks_doing, asks_outside, course_outside}
-use Rattle.tl_journal.specs.Bytes.{heard, home_of}
+use Rattle.tl_journal.specs.Bytes.{home_of}
+use Rattle.tl_ask.specs.Given.{shown_heard}
 use Rattle.tl_journal.specs.Node.{Outside, Recovering, Node, nodes_in}
 use Rattle.tl_journal.specs.Says.{says_outside}
-use Rattle.tl_journal.specs.Strange.{is_stopped, is_strange}
+use Rattle.tl_journal.specs.Strange.{is_stopped, is_strange_to}
 use Rattle.tl_journal.specs.Takes.{stopped, takes_outside}
 use Rattle.tl_schema.specs.declared.catalog.Catalog.{Catalog}
 use Rattle.tl_ask.specs.declared.asked.Asked.{Asked}
@@ -33,6 +32,7 @@ use Rattle.tl_recover.specs.declared.phase.Phase.TheVariants as phase
 use Rattle.tl_txn.specs.declared.phase.Phase as txn_phase
 use Rattle.tl_txn.specs.declared.phase.Phase.TheVariants as txn_phases
 use Rattle.tl_txn.specs.declared.txn.Txn.{Txn}
+use Rattle.tl_node.proofs.Heard.{manager_alike}
 use Rattle.tl_node.specs.After.{ComesTo, IsAfter, hears}
 use Rattle.tl_node.specs.Fits.{FitsAll, HasPresent, IsBeginning, IsFit}
 use Rattle.tl_node.specs.Hears.{claim_heard, floor_heard}
@@ -51,10 +51,6 @@ use Rattle.tl_node.specs.declared.work.Work.TheVariants as work
 use Rattle.tl_node.proofs.Leaving.{IsLeaving, left_comes, left_wants}
 use Rattle.tl_node.proofs.Opening.{node_with, outside_doing, same_node, todo_outside}
 
-pub told_alike : (number : ℕ) (request : ManagerRequest) (told : Reply) → heard (AskManager number request) told ≡ hears_manager told
-told_alike number request (reply.Manager t) = refl
-told_alike number request (reply.Store t) = refl
-
 -- ---- COMMIT and ROLLBACK
 
 stops_idle : (settings : Settings) (n : Node) (sound : Heard) → floor_heard sound ≡ None → takes_outside settings n ToIdle sound ≡ stopped n
@@ -71,12 +67,12 @@ module _ (core : Core) (statement : Bound) (later : List Bound) (course_is : cou
   hears_idle : (told : Reply) → hears core.layout core.catalog (node_with core (statement ∷ later) Outside) told ≡ hears_manager told
   hears_idle told = by (course_outside statement) course_is
     where
-      by : (course : Course) → course ≡ ToIdle → heard (asks_outside core.layout (node_with core (statement ∷ later) Outside) statement course) told ≡ hears_manager told
-      by ToIdle e = told_alike (home_of core.layout core.number) (request.Floor opening_copy) told
+      by : (course : Course) → course ≡ ToIdle → shown_heard core.catalog (asks_outside core.layout (node_with core (statement ∷ later) Outside) statement course) told ≡ hears_manager told
+      by ToIdle e = manager_alike core.catalog (home_of core.layout core.number) (request.Floor opening_copy) told
       by course e = cc
 
   strange_idle : (sound : Heard) → floor_heard sound ≡ None
-      → is_strange core.layout core.catalog (node_with core (statement ∷ later) Outside) sound answer.Begun ≡ true
+      → is_strange_to core.layout core.catalog (node_with core (statement ∷ later) Outside) sound ≡ true
   strange_idle sound e =
       ap (λ c. is_stopped (takes_outside core.layout (node_with core (statement ∷ later) Outside) c sound).doing || false) course_is
       ∙ ap (λ (m : Node). is_stopped m.doing || false) (stops_idle core.layout (node_with core (statement ∷ later) Outside) sound e)
@@ -147,7 +143,7 @@ pub hears_claiming : (core : Core) (todo : List Bound) (gone : ℕ) (a : Asked) 
 hears_claiming core [] gone a told fits = absurd cc
 hears_claiming core (statement ∷ later) gone a told fits =
     subst (λ s. hears core.layout core.catalog (node_with core (s ∷ later) Outside) told ≡ hears_manager told) (sym fits)
-    (told_alike (home_of core.layout gone) (request.Claim gone) told)
+    (manager_alike core.catalog (home_of core.layout gone) (request.Claim gone) told)
 
 stops_claim : (settings : Settings) (n : Node) (gone : ℕ) (sound : Heard) → claim_heard sound ≡ None → takes_outside settings n (ToRecover gone) sound ≡ stopped n
 stops_claim settings n gone (Told manager.There) e = cc

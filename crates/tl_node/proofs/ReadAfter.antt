@@ -3,14 +3,12 @@ use Rattle.std.proofs.Common.{◌≡◌, ℕ, ◌+◌, Bool, true, false, ◌⊎
 use Rattle.std.specs.Prelude.{◌||◌}
 use Rattle.tl_base.specs.declared.memory.NoMemory.{NoMemory}
 use Rattle.tl_base.specs.declared.place.Settings.{Settings}
-use Rattle.tl_base.specs.declared.store.StoreReply.TheVariants as answered
 use Rattle.tl_values.specs.declared.value.Value.{Value}
 use Rattle.tl_manager.specs.declared.mark.Mark.{Mark}
 use Rattle.tl_manager.specs.declared.mark.Mark.TheVariants as mark
 use Rattle.tl_manager.specs.declared.mark.TxnStep.{TxnStep}
 use Rattle.tl_manager.specs.declared.mark.TxnStep.TheVariants as step
 use Rattle.tl_manager.specs.declared.request.Reply.{Reply}
-use Rattle.tl_manager.specs.declared.request.Reply.TheVariants as reply
 use Rattle.tl_descriptor.specs.Tids.{TidSet}
 use Rattle.tl_write.specs.declared.write.Write.{Write}
 use Rattle.tl_write.specs.Change.{number_of}
@@ -21,18 +19,17 @@ use Rattle.tl_isolation.specs.declared.entry.Answer.TheVariants as answer
 use Rattle.tl_isolation.specs.declared.state.Commit.{Commit}
 use Rattle.tl_plan.specs.Plan.{numbers_of}
 use Rattle.tl_protocol.specs.World.{Txn}
-use Rattle.tl_journal.specs.Ask.{Ask, ReadPage, Heard}
+use Rattle.tl_journal.specs.Ask.{Ask, Heard}
 use Rattle.tl_journal.specs.Asks.{asks_read}
-use Rattle.tl_journal.specs.Bytes.{heard}
+use Rattle.tl_schema.specs.declared.catalog.Catalog.{Catalog}
+use Rattle.tl_ask.specs.Given.{shown_heard}
 use Rattle.tl_journal.specs.Memory.{unsaid}
 use Rattle.tl_journal.specs.Node.{Reading, Node}
 use Rattle.tl_journal.specs.Reads as law
 use Rattle.tl_journal.specs.Reads.{Reads, after_read, next_table, read_of}
 use Rattle.tl_journal.specs.Says.{says_read}
-use Rattle.tl_journal.specs.Strange.{is_odd_for, is_strange, is_stopped}
+use Rattle.tl_journal.specs.Strange.{is_odd_for, is_strange_to, is_stopped}
 use Rattle.tl_journal.specs.Takes.{MeansRead, after_reply, goes_on}
-use Rattle.tl_ask.specs.Hears.{hears_page}
-use Rattle.tl_ask.specs.Thin.{thin_read}
 use Rattle.tl_txn.specs.After.{IsKnown, IsTaken, IsTold, asked_next}
 use Rattle.tl_txn.specs.Doing.{txn_in}
 use Rattle.tl_txn.specs.Follows.{ReadsNeverEnd, StepsSo, law_read}
@@ -47,6 +44,7 @@ use Rattle.tl_txn.specs.declared.phase.Phase.TheVariants as phase
 use Rattle.tl_txn.specs.declared.phase.Read.{Read}
 use Rattle.tl_txn.specs.declared.phase.Read.TheVariants as read
 use Rattle.tl_txn.specs.declared.txn.Txn.{Txn as TheTxn}
+use Rattle.tl_node.proofs.Heard.{page_shown}
 use Rattle.tl_node.specs.After.{ComesTo, IsAfter, IsHeld, IsOpened, at_todo, hears, marked}
 use Rattle.tl_node.specs.Fits.{FitsReading, FitsRunning, HasPresent, IsFit, IsOwn, IsReading, OwnSuitsStatement, TakesStatements}
 use Rattle.tl_node.specs.ReadOn.{IsReadSo, read_behind}
@@ -72,17 +70,16 @@ left_behind (bound.Change edit) reading = map (read_of (number_of edit)) (drop (
 left_behind statement reading = []
 
 head_is : (r : Read) → head_of r ≡ law_read r
-head_is read.Point = refl
+head_is (read.Point key) = refl
 head_is (read.Range p) = refl
 
-head_thin : (r : Read) (left : List law.Read) → thin_read (head_of r ∷ left) ≡ law_read r ∷ left
-head_thin read.Point left = refl
-head_thin (read.Range p) left = refl
+head_left : (r : Read) (left : List law.Read) → head_of r ∷ left ≡ law_read r ∷ left
+head_left r left = ap (λ (x : law.Read). x ∷ left) (head_is r)
 
-left_is : (statement : Bound) (reading : TheReading) (live : Open) (r : Read) → thin_read (reads_in statement reading live r).left ≡ law_read r ∷ left_behind statement reading
-left_is (bound.Select query) reading live r = head_thin r []
-left_is (bound.Change edit) reading live r = head_thin r (left_behind (bound.Change edit) reading)
-left_is statement reading live r = head_thin r []
+left_is : (statement : Bound) (reading : TheReading) (live : Open) (r : Read) → (reads_in statement reading live r).left ≡ law_read r ∷ left_behind statement reading
+left_is (bound.Select query) reading live r = head_left r []
+left_is (bound.Change edit) reading live r = head_left r (left_behind (bound.Change edit) reading)
+left_is statement reading live r = head_left r []
 
 reads_are : (a b : Reads) → a.left ≡ b.left → a.later ≡ b.later → a.rows ≡ b.rows → a.earlier ≡ b.earlier → a ≡ b
 reads_are a b e f g h =
@@ -117,14 +114,9 @@ behind_is statement reading live after r found e = ap (λ (rows : List (List Val
 
 -- ---- what is heard
 
-page_alike : (shard : ℕ) (from before : List ℕ) (told : Reply) → heard (ReadPage shard from before) told ≡ hears_page told
-page_alike shard from before (reply.Manager r) = refl
-page_alike shard from before (reply.Store (answered.Items list more)) = refl
-page_alike shard from before (reply.Store r) = refl
-
-hears_first : (r : Read) (left : List law.Read) (told : Reply) → heard (asks_read (head_of r ∷ left)) told ≡ code.hears_reading r told
-hears_first read.Point left told = refl
-hears_first (read.Range p) left told = page_alike p.shard p.from p.before told
+hears_first : (catalog : Catalog) (r : Read) (left : List law.Read) (told : Reply) → shown_heard catalog (asks_read (head_of r ∷ left)) told ≡ code.hears_reading catalog r told
+hears_first catalog (read.Point key) left told = refl
+hears_first catalog (read.Range p) left told = page_shown catalog p.shard p.from p.before told
 
 -- ---- the phase
 
@@ -168,19 +160,19 @@ module _ (old : Core) (statement : Bound) (later : List Bound) (said : Stage) (r
   awaits : Awaits T Law live r (left_behind statement reading)
   awaits = record { snapshot_is = refl; left_are = left_is statement reading live r }
 
-  hears_so : (told : Reply) → hears old.layout old.catalog At told ≡ code.hears_reading r told
+  hears_so : (told : Reply) → hears old.layout old.catalog At told ≡ code.hears_reading old.catalog r told
   hears_so told = by statement
     where
-      by : (s : Bound) → heard (asks_read (reads_in s reading live r).left) told ≡ code.hears_reading r told
-      by (bound.Select query) = hears_first r [] told
-      by (bound.Change edit) = hears_first r (map (read_of (number_of edit)) (drop (reading.at + 1) reading.accesses)) told
-      by s = hears_first r [] told
+      by : (s : Bound) → shown_heard old.catalog (asks_read (reads_in s reading live r).left) told ≡ code.hears_reading old.catalog r told
+      by (bound.Select query) = hears_first old.catalog r [] told
+      by (bound.Change edit) = hears_first old.catalog r (map (read_of (number_of edit)) (drop (reading.at + 1) reading.accesses)) told
+      by s = hears_first old.catalog r [] told
 
   -- the read goes on
   goes : (txn after : TheTxn) (told : Reply) (m : Mark) (taken : Taken) → drop (length old.answers.items) old.statements ≡ statement ∷ later → IsOwn old txn → IsSameRun txn after
       → FitsReading old statement reading → TakesStatements (stage_of said) → after.phase ≡ taken.phase → after.next ≡ asked_next txn.layout taken.ask
-      → NodeReadGoes old.layout old.catalog At statement T Law live (left_behind statement reading) (code.hears_reading r told) answer.Begun taken m
-      → ComesTo old.layout old.catalog At (code.hears_reading r told) told old m (Ok (next.Goes (work.Runs (read_run after said reading))))
+      → NodeReadGoes old.layout old.catalog At statement T Law live (left_behind statement reading) (code.hears_reading old.catalog r told) answer.Begun taken m
+      → ComesTo old.layout old.catalog At (code.hears_reading old.catalog r told) told old m (Ok (next.Goes (work.Runs (read_run after said reading))))
   goes txn after told m taken todo_is own same fits takes phase_is next_is g =
       let w : Work = work.Runs (read_run after said reading) in
       let at_phase : after.phase ≡ phase.Reading g.next_live g.next_read = phase_is ∙ g.phase_is in
@@ -188,7 +180,7 @@ module _ (old : Core) (statement : Bound) (later : List Bound) (said : Stage) (r
       ap (λ (tid : ℕ). record { tid = tid; snapshot = g.next_live.snapshot; own = g.next_live.own; stage = stage_of said }) g.finds.tid_is
       ∙ ap (λ (snapshot : TidSet). record { tid = live.tid; snapshot = snapshot; own = g.next_live.own; stage = stage_of said }) g.finds.snapshot_is
       ∙ ap (λ (own : List Write). record { tid = live.tid; snapshot = live.snapshot; own = own; stage = stage_of said }) g.finds.own_is in
-      let reads_so : reads_in statement reading g.next_live g.next_read ≡ record g.next_reads { left = thin_read g.next_reads.left } =
+      let reads_so : reads_in statement reading g.next_live g.next_read ≡ g.next_reads =
       reads_next statement reading live g.next_live r g.next_read g.found g.finds.rows_are
       ∙ reads_are _ _ (sym g.awaits.left_are) (sym g.later_are) (sym g.rows_are) (sym g.earlier_are) in
       let o : IsOpened old (statement ∷ later) (Reading T g.next_reads) w =
@@ -214,16 +206,16 @@ module _ (old : Core) (statement : Bound) (later : List Bound) (said : Stage) (r
 
   -- it is done
   pub is_read : (after : TheTxn) (told : Reply) (m : Mark) (taken : Taken) → drop (length old.answers.items) old.statements ≡ statement ∷ later → after.phase ≡ taken.phase
-      → ((told_so : Answer) → NodeReadEnds old.layout old.catalog At statement T Law live (left_behind statement reading) (code.hears_reading r told) told_so taken m)
-      → IsReadSo old At (code.hears_reading r told) reading after.phase said
+      → ((told_so : Answer) → NodeReadEnds old.layout old.catalog At statement T Law live (left_behind statement reading) (code.hears_reading old.catalog r told) told_so taken m)
+      → IsReadSo old At (code.hears_reading old.catalog r told) reading after.phase said
   is_read after told m taken todo_is phase_is ends =
-      let e : NodeReadEnds old.layout old.catalog At statement T Law live (left_behind statement reading) (code.hears_reading r told) answer.Begun taken m = ends answer.Begun in
+      let e : NodeReadEnds old.layout old.catalog At statement T Law live (left_behind statement reading) (code.hears_reading old.catalog r told) answer.Begun taken m = ends answer.Begun in
       let t_is : txn_in (stage_of said) e.next_live ≡ T =
       ap (λ (tid : ℕ). record { tid = tid; snapshot = e.next_live.snapshot; own = e.next_live.own; stage = stage_of said }) e.finds.tid_is
       ∙ ap (λ (snapshot : TidSet). record { tid = live.tid; snapshot = snapshot; own = e.next_live.own; stage = stage_of said }) e.finds.snapshot_is
       ∙ ap (λ (own : List Write). record { tid = live.tid; snapshot = live.snapshot; own = own; stage = stage_of said }) e.finds.own_is in
       let behind : read_behind statement reading e.next_live.rows ≡ after_read Law (left_behind statement reading) e.found = behind_is statement reading live e.next_live r e.found e.finds.rows_are in
-      let reply_is : after_reply old.layout T.snapshot Law Law.left (code.hears_reading r told) ≡ Some (read_behind statement reading e.next_live.rows) =
+      let reply_is : after_reply old.layout T.snapshot Law Law.left (code.hears_reading old.catalog r told) ≡ Some (read_behind statement reading e.next_live.rows) =
       e.after_is ∙ ap (λ (x : Reads). Some x) (sym behind) in
       record {
         statement = statement;
@@ -249,35 +241,35 @@ module _ (old : Core) (statement : Bound) (later : List Bound) (said : Stage) (r
 
   -- memory was wanted, or the reply is strange
   entries_at : (told : Reply) (m : Mark) → NodeReadsOn → NodeReadsAll → NodeReadsStop → ReadsNeverEnd → StepsSo → (number : ℕ) (made : Option TxnStep)
-      → (takes old.layout number (phase.Reading live r) (code.hears_reading r told)).step ≡ made → IsTold made m
-      → is_strange old.layout old.catalog At (code.hears_reading r told) answer.Begun ≡ false
-      → (commits : List Commit) → (unsaid (says_read At statement T (after_reply old.layout T.snapshot Law Law.left (code.hears_reading r told)) answer.Begun) ≡ marked commits old.number told m)
-      ⊎ (says_read At statement T (after_reply old.layout T.snapshot Law Law.left (code.hears_reading r told)) answer.Begun ≡ marked commits old.number told m)
+      → (takes old.layout number (phase.Reading live r) (code.hears_reading old.catalog r told)).step ≡ made → IsTold made m
+      → is_strange_to old.layout old.catalog At (code.hears_reading old.catalog r told) ≡ false
+      → (commits : List Commit) → (unsaid (says_read At statement T (after_reply old.layout T.snapshot Law Law.left (code.hears_reading old.catalog r told)) answer.Begun) ≡ marked commits old.number told m)
+      ⊎ (says_read At statement T (after_reply old.layout T.snapshot Law Law.left (code.hears_reading old.catalog r told)) answer.Begun ≡ marked commits old.number told m)
   entries_at told m on all stop ends steps number None is known strange commits =
-      let h = stop old.layout old.catalog At statement T Law live r (left_behind statement reading) (code.hears_reading r told) answer.Begun awaits is in
+      let h = stop old.layout old.catalog At statement T Law live r (left_behind statement reading) (code.hears_reading old.catalog r told) answer.Begun awaits is in
       absurd
-      (clash (is_strange old.layout old.catalog At (code.hears_reading r told) answer.Begun)
-      (ap (λ (n : Node). is_stopped n.doing || is_odd_for At.doing (code.hears_reading r told)) h.takes_is) strange)
+      (clash (is_strange_to old.layout old.catalog At (code.hears_reading old.catalog r told))
+      (ap (λ (n : Node). is_stopped n.doing || is_odd_for At.doing (code.hears_reading old.catalog r told)) h.takes_is) strange)
   entries_at told m on all stop ends steps number (Some (step.Going meant)) is known strange commits =
-      let g = on old.layout old.catalog At statement T Law live r (left_behind statement reading) (code.hears_reading r told) answer.Begun meant awaits is in
+      let g = on old.layout old.catalog At statement T Law live r (left_behind statement reading) (code.hears_reading old.catalog r told) answer.Begun meant awaits is in
       let m_is : m ≡ mark.Quiet = subst (λ (x : Mark). IsKnown x m) g.mark_is known in
       inr (g.says_is ∙ ap (λ (x : Mark). marked commits old.number told x) (sym m_is))
   entries_at told m on all stop ends steps number (Some (step.Ready meant)) is known strange commits =
-      let e = all old.layout old.catalog At statement T Law live r (left_behind statement reading) (code.hears_reading r told) answer.Begun meant awaits is in
+      let e = all old.layout old.catalog At statement T Law live r (left_behind statement reading) (code.hears_reading old.catalog r told) answer.Begun meant awaits is in
       let m_is : m ≡ mark.Quiet = subst (λ (x : Mark). IsKnown x m) e.mark_is known in
       inl
-      (unsaid_read At statement T (after_reply old.layout T.snapshot Law Law.left (code.hears_reading r told)) answer.Begun
+      (unsaid_read At statement T (after_reply old.layout T.snapshot Law Law.left (code.hears_reading old.catalog r told)) answer.Begun
       ∙ ap (λ (x : Mark). marked commits old.number told x) (sym m_is))
   entries_at told m on all stop ends steps number (Some (step.Leaf meant)) is known strange commits =
-      absurd ((steps old.layout number (phase.Reading live r) (code.hears_reading r told) meant).0 is)
+      absurd ((steps old.layout number (phase.Reading live r) (code.hears_reading old.catalog r told) meant).0 is)
   entries_at told m on all stop ends steps number (Some (step.NoMemory meant)) is known strange commits =
-      absurd ((steps old.layout number (phase.Reading live r) (code.hears_reading r told) meant).1 is)
+      absurd ((steps old.layout number (phase.Reading live r) (code.hears_reading old.catalog r told) meant).1 is)
   entries_at told m on all stop ends steps number (Some (step.Ended meant)) is known strange commits =
-      absurd (ends old.layout live r (code.hears_reading r told) meant is)
+      absurd (ends old.layout live r (code.hears_reading old.catalog r told) meant is)
 
   -- the node as it stands
   stands_so : (txn : TheTxn) (told : Reply) (new : Core) (m : Mark) (result : Result Next NoMemory) → txn.phase ≡ phase.Reading live r
-      → drop (length old.answers.items) old.statements ≡ statement ∷ later → ComesTo old.layout old.catalog At (code.hears_reading r told) told new m result
+      → drop (length old.answers.items) old.statements ≡ statement ∷ later → ComesTo old.layout old.catalog At (code.hears_reading old.catalog r told) told new m result
       → IsAfter old.layout old.catalog (node_at old (work.Runs (read_run txn said reading))) told new m result
   stands_so txn told new m result is todo_is comes =
       subst (λ (todo : List Bound). IsAfter old.layout old.catalog (at_todo old todo (doing_so todo (work.Runs (read_run txn said reading)))) told new m result) (sym todo_is)
@@ -288,7 +280,7 @@ module _ (old : Core) (statement : Bound) (later : List Bound) (said : Stage) (r
 
 module _ (old : Core) (txn : TheTxn) (said : Stage) (reading : TheReading) (told : Reply) (fits : IsFit old (work.Runs (read_run txn said reading))) where
   abbrev pub Taken_of : Taken
-  Taken_of = takes txn.layout txn.node txn.phase (code.hears txn.phase told)
+  Taken_of = takes txn.layout txn.node txn.phase (code.hears old.catalog txn.phase told)
 
   abbrev pub AfterIs : Core → Mark → Result Next NoMemory → Type 0
   AfterIs new m result = IsAfter old.layout old.catalog (node_at old (work.Runs (read_run txn said reading))) told new m result
@@ -300,45 +292,45 @@ module _ (old : Core) (txn : TheTxn) (said : Stage) (reading : TheReading) (told
   at = reading_is txn.phase present.holds.course.0
 
   -- what the code makes of the reply
-  made_so : {A : Type 0} (f : Taken → A) → f Taken_of ≡ f (takes old.layout old.number (phase.Reading at.live at.r) (code.hears_reading at.r told))
+  made_so : {A : Type 0} (f : Taken → A) → f Taken_of ≡ f (takes old.layout old.number (phase.Reading at.live at.r) (code.hears_reading old.catalog at.r told))
   made_so f =
-      ap (λ (settings : Settings). f (takes settings txn.node txn.phase (code.hears txn.phase told))) present.holds.own.layout
-      ∙ ap (λ (number : ℕ). f (takes old.layout number txn.phase (code.hears txn.phase told))) present.holds.own.node
-      ∙ ap (λ (p : Phase). f (takes old.layout old.number p (code.hears p told))) at.is
+      ap (λ (settings : Settings). f (takes settings txn.node txn.phase (code.hears old.catalog txn.phase told))) present.holds.own.layout
+      ∙ ap (λ (number : ℕ). f (takes old.layout number txn.phase (code.hears old.catalog txn.phase told))) present.holds.own.node
+      ∙ ap (λ (p : Phase). f (takes old.layout old.number p (code.hears old.catalog p told))) at.is
 
   pub read_going : NodeReadsOn → (after : TheTxn) (m : Mark) (w : Work) → IsSameRun txn after
       → IsTaken txn.layout Taken_of (record { phase = after.phase; next = after.next; step = Some (step.Going m) }) → w ≡ work.Runs (read_run after said reading) → AfterIs old m (Ok (next.Goes w))
   read_going on after m w same is w_is =
-      let step_is : (takes old.layout old.number (phase.Reading at.live at.r) (code.hears_reading at.r told)).step ≡ Some (step.Going m) =
+      let step_is : (takes old.layout old.number (phase.Reading at.live at.r) (code.hears_reading old.catalog at.r told)).step ≡ Some (step.Going m) =
       sym (made_so (λ (t : Taken). t.step)) ∙ sym (ap (λ (a : After). a.step) is) in
       subst (λ (x : Work). AfterIs old m (Ok (next.Goes x))) (sym w_is)
       (stands_so old present.statement present.later said reading at.live at.r txn told old m (Ok (next.Goes (work.Runs (read_run after said reading)))) at.is present.todo_is
-      (goes old present.statement present.later said reading at.live at.r txn after told m (takes_reading old.layout at.live at.r (code.hears_reading at.r told)) present.todo_is present.holds.own same
+      (goes old present.statement present.later said reading at.live at.r txn after told m (takes_reading old.layout at.live at.r (code.hears_reading old.catalog at.r told)) present.todo_is present.holds.own same
       present.holds.course.1 present.holds.course.2 (ap (λ (a : After). a.phase) is ∙ made_so (λ (t : Taken). t.phase))
       (ap (λ (a : After). a.next) is ∙ ap (λ (ask : Option Ask). asked_next txn.layout ask) (made_so (λ (t : Taken). t.ask)))
       (on old.layout old.catalog (At old present.statement present.later said reading at.live at.r) present.statement (txn_in (stage_of said) at.live)
-      (reads_in present.statement reading at.live at.r) at.live at.r (left_behind present.statement reading) (code.hears_reading at.r told) answer.Begun m
+      (reads_in present.statement reading at.live at.r) at.live at.r (left_behind present.statement reading) (code.hears_reading old.catalog at.r told) answer.Begun m
       (awaits old present.statement present.later said reading at.live at.r) step_is)))
 
   -- a read is done
   pub read_done : NodeReadsAll → (after : TheTxn) (m : Mark) → IsTaken txn.layout Taken_of (record { phase = after.phase; next = after.next; step = Some (step.Ready m) })
-      → IsReadSo old (At old present.statement present.later said reading at.live at.r) (code.hears_reading at.r told) reading after.phase said
+      → IsReadSo old (At old present.statement present.later said reading at.live at.r) (code.hears_reading old.catalog at.r told) reading after.phase said
   read_done all after m is =
-      let step_is : (takes old.layout old.number (phase.Reading at.live at.r) (code.hears_reading at.r told)).step ≡ Some (step.Ready m) =
+      let step_is : (takes old.layout old.number (phase.Reading at.live at.r) (code.hears_reading old.catalog at.r told)).step ≡ Some (step.Ready m) =
       sym (made_so (λ (t : Taken). t.step)) ∙ sym (ap (λ (a : After). a.step) is) in
-      is_read old present.statement present.later said reading at.live at.r after told m (takes_reading old.layout at.live at.r (code.hears_reading at.r told)) present.todo_is
+      is_read old present.statement present.later said reading at.live at.r after told m (takes_reading old.layout at.live at.r (code.hears_reading old.catalog at.r told)) present.todo_is
       (ap (λ (a : After). a.phase) is ∙ made_so (λ (t : Taken). t.phase))
       (λ told_so.
       all old.layout old.catalog (At old present.statement present.later said reading at.live at.r) present.statement (txn_in (stage_of said) at.live)
-      (reads_in present.statement reading at.live at.r) at.live at.r (left_behind present.statement reading) (code.hears_reading at.r told) told_so m
+      (reads_in present.statement reading at.live at.r) at.live at.r (left_behind present.statement reading) (code.hears_reading old.catalog at.r told) told_so m
       (awaits old present.statement present.later said reading at.live at.r) step_is)
 
   pub read_marked : NodeReadsAll → (after : TheTxn) (m : Mark) → IsTaken txn.layout Taken_of (record { phase = after.phase; next = after.next; step = Some (step.Ready m) }) → m ≡ mark.Quiet
   read_marked all after m is =
-      let step_is : (takes old.layout old.number (phase.Reading at.live at.r) (code.hears_reading at.r told)).step ≡ Some (step.Ready m) =
+      let step_is : (takes old.layout old.number (phase.Reading at.live at.r) (code.hears_reading old.catalog at.r told)).step ≡ Some (step.Ready m) =
       sym (made_so (λ (t : Taken). t.step)) ∙ sym (ap (λ (a : After). a.step) is) in
       (all old.layout old.catalog (At old present.statement present.later said reading at.live at.r) present.statement (txn_in (stage_of said) at.live)
-      (reads_in present.statement reading at.live at.r) at.live at.r (left_behind present.statement reading) (code.hears_reading at.r told) answer.Begun m
+      (reads_in present.statement reading at.live at.r) at.live at.r (left_behind present.statement reading) (code.hears_reading old.catalog at.r told) answer.Begun m
       (awaits old present.statement present.later said reading at.live at.r) step_is).mark_is
 
   pub read_ready : IsReading txn.phase
@@ -350,7 +342,7 @@ module _ (old : Core) (txn : TheTxn) (said : Stage) (reading : TheReading) (told
   take_ready all after m new result is comes =
       subst (λ (x : Mark). AfterIs new x result) (sym (read_marked all after m is))
       (stands_so old present.statement present.later said reading at.live at.r txn told new mark.Quiet result at.is present.todo_is
-      (comes (At old present.statement present.later said reading at.live at.r) (code.hears_reading at.r told) told (read_done all after m is)))
+      (comes (At old present.statement present.later said reading at.live at.r) (code.hears_reading old.catalog at.r told) told (read_done all after m is)))
 
   held : IsHeld (At old present.statement present.later said reading at.live at.r) old
   held = record { left = refl; answers = refl }
@@ -364,23 +356,23 @@ module _ (old : Core) (txn : TheTxn) (said : Stage) (reading : TheReading) (told
           no_end = refl;
           entries =
               entries_at old present.statement present.later said reading at.live at.r told m on all stop ends steps old.number
-              (takes old.layout old.number (phase.Reading at.live at.r) (code.hears_reading at.r told)).step refl
+              (takes old.layout old.number (phase.Reading at.live at.r) (code.hears_reading old.catalog at.r told)).step refl
               (subst (λ (made : Option TxnStep). IsTold made m) (made_so (λ (t : Taken). t.step)) is.1);
         },
       )
 
   pub take_strange : NodeReadsStop → (after : TheTxn) → IsTaken txn.layout Taken_of (record { phase = after.phase; next = after.next; step = None }) → AfterIs old mark.Quiet (Ok next.Strange)
   take_strange stop after is =
-      let step_is : (takes old.layout old.number (phase.Reading at.live at.r) (code.hears_reading at.r told)).step ≡ None = sym (made_so (λ (t : Taken). t.step)) ∙ sym (ap (λ (a : After). a.step) is) in
+      let step_is : (takes old.layout old.number (phase.Reading at.live at.r) (code.hears_reading old.catalog at.r told)).step ≡ None = sym (made_so (λ (t : Taken). t.step)) ∙ sym (ap (λ (a : After). a.step) is) in
       let h = stop old.layout old.catalog (At old present.statement present.later said reading at.live at.r) present.statement (txn_in (stage_of said) at.live)
-      (reads_in present.statement reading at.live at.r) at.live at.r (left_behind present.statement reading) (code.hears_reading at.r told) answer.Begun
+      (reads_in present.statement reading at.live at.r) at.live at.r (left_behind present.statement reading) (code.hears_reading old.catalog at.r told) answer.Begun
       (awaits old present.statement present.later said reading at.live at.r) step_is in
       stands_so old present.statement present.later said reading at.live at.r txn told old mark.Quiet (Ok next.Strange) at.is present.todo_is
-      (held, ap (λ (n : Node). is_stopped n.doing || is_odd_for (At old present.statement present.later said reading at.live at.r).doing (code.hears_reading at.r told)) h.takes_is)
+      (held, ap (λ (n : Node). is_stopped n.doing || is_odd_for (At old present.statement present.later said reading at.live at.r).doing (code.hears_reading old.catalog at.r told)) h.takes_is)
 
   pub never_leaf : StepsSo → (after : TheTxn) (m : Mark) → IsTaken txn.layout Taken_of (record { phase = after.phase; next = after.next; step = Some (step.Leaf m) }) → ⊥
-  never_leaf steps after m is = (steps txn.layout txn.node txn.phase (code.hears txn.phase told) m).0 (sym (ap (λ (a : After). a.step) is))
+  never_leaf steps after m is = (steps txn.layout txn.node txn.phase (code.hears old.catalog txn.phase told) m).0 (sym (ap (λ (a : After). a.step) is))
 
   pub never_ended : ReadsNeverEnd → (after : TheTxn) (m : Mark) → IsTaken txn.layout Taken_of (record { phase = after.phase; next = after.next; step = Some (step.Ended m) }) → ⊥
   never_ended ends after m is =
-      ends old.layout at.live at.r (code.hears_reading at.r told) m (sym (made_so (λ (t : Taken). t.step)) ∙ sym (ap (λ (a : After). a.step) is))
+      ends old.layout at.live at.r (code.hears_reading old.catalog at.r told) m (sym (made_so (λ (t : Taken). t.step)) ∙ sym (ap (λ (a : After). a.step) is))

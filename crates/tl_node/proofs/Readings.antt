@@ -17,7 +17,6 @@ use Rattle.tl_plan.specs.Plan.{accesses_in, edit_accesses, is_looked_up, numbers
 use Rattle.tl_journal.specs.Asks.{ToIdle, reading_course}
 use Rattle.tl_journal.specs.Reads as law
 use Rattle.tl_journal.specs.Reads.{Reads, after_read, all_reads, begin_reads, edit_reads, next_table, read_of, reads_of}
-use Rattle.tl_ask.specs.Thin.{thin_read}
 use Rattle.tl_txn.specs.Calls.{awaited, without_rows}
 use Rattle.tl_txn.specs.declared.phase.Open.{Open}
 use Rattle.tl_node.specs.NextRead.{table_number}
@@ -65,7 +64,7 @@ reads_at statement reading first rows = record { left = first ∷ []; later = []
 -- as code keeps them
 pub reads_kept : (statement : Bound) (reading : TheReading) (live : Open) (wanted : law.Read)
     → reads_in statement reading (without_rows live) (awaited wanted)
-    ≡ record (reads_at statement reading wanted []) { left = thin_read (reads_at statement reading wanted []).left }
+    ≡ reads_at statement reading wanted []
 reads_kept (bound.Select query) reading live (law.Point key) = refl
 reads_kept (bound.Select query) reading live (law.Range shard from first before) = refl
 reads_kept (bound.Change edit) reading live (law.Point key) = refl

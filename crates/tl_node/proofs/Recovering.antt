@@ -5,35 +5,32 @@ use Rattle.tl_base.specs.declared.memory.NoMemory.{NoMemory}
 use Rattle.tl_base.specs.declared.node.NodeSet.{NodeSet}
 use Rattle.tl_base.specs.declared.place.Settings.{Settings}
 use Rattle.tl_schema.specs.declared.catalog.Catalog.{Catalog}
-use Rattle.tl_descriptor.specs.Tids.{TidSet, inserted}
+use Rattle.tl_descriptor.specs.Tids.{inserted}
 use Rattle.tl_logrec.specs.declared.entry.Flag.TheVariants as flag
 use Rattle.tl_manager.specs.State.{opening_copy}
 use Rattle.tl_manager.specs.declared.request.ManagerRequest.TheVariants as request
 use Rattle.tl_versions.specs.Versions.{strip}
 use Rattle.tl_protocol.specs.Next.{marked as mark_cell}
-use Rattle.tl_logrec.specs.declared.entry.LogEntry.{LogEntry}
-use Rattle.tl_versions.specs.declared.version.Version.{Version}
 use Rattle.tl_manager.specs.declared.mark.Mark.{Mark}
 use Rattle.tl_manager.specs.declared.mark.Mark.TheVariants as mark
 use Rattle.tl_manager.specs.declared.mark.TxnStep.{TxnStep}
 use Rattle.tl_manager.specs.declared.mark.TxnStep.TheVariants as step
 use Rattle.tl_manager.specs.declared.request.Reply.{Reply}
-use Rattle.tl_manager.specs.declared.request.Reply.TheVariants as reply
 use Rattle.tl_isolation.specs.declared.bound.Bound.{Bound}
 use Rattle.tl_isolation.specs.declared.bound.Bound.TheVariants as bound
 use Rattle.tl_isolation.specs.declared.entry.Answer.{Answer}
 use Rattle.tl_isolation.specs.declared.entry.Answer.TheVariants as answer
 use Rattle.tl_isolation.specs.declared.state.Commit.{Commit}
-use Rattle.tl_journal.specs.Ask.{Ask, StoreCommits, LoadLog, StoreLog, LoadRecord, StoreRecord, Heard}
+use Rattle.tl_journal.specs.Ask.{Ask, Heard}
 use Rattle.tl_journal.specs.Asks.{asks, asks_stripping}
-use Rattle.tl_journal.specs.Bytes.{heard, home_of}
+use Rattle.tl_journal.specs.Bytes.{home_of}
+use Rattle.tl_ask.specs.Given.{shown_heard}
 use Rattle.tl_journal.specs.Memory.{is_ending, unsaid}
 use Rattle.tl_journal.specs.Node.{Doing, Inside, Node}
 use Rattle.tl_journal.specs.Says.{says_at}
-use Rattle.tl_journal.specs.Strange.{is_strange}
+use Rattle.tl_journal.specs.Strange.{is_strange_to}
 use Rattle.tl_journal.specs.Takes.{MeansDoing}
 use Rattle.tl_protocol.specs.Store.{Key, LogCell}
-use Rattle.tl_ask.specs.Hears.{hears_log, hears_record, hears_store}
 use Rattle.tl_ask.specs.Thin.{thin}
 use Rattle.tl_recover.specs.Doing.{doing_of, lost_of}
 use Rattle.tl_recover.specs.Follows.{Awaits, Ends, GoesOn, GoesOnOrEnds, GoesOnSo, IsStrangeAlike, Turn, after as after_turn, entries, entries_of, is_awaiting}
@@ -55,50 +52,29 @@ use Rattle.tl_node.specs.declared.work.Next.TheVariants as next
 use Rattle.tl_node.specs.declared.work.Work.TheVariants as work
 use Rattle.tl_node.proofs.Leaving.{IsLeaving, left_comes}
 use Rattle.tl_node.proofs.Opening.{node_with, none_left, same_node, some_left}
-use Rattle.tl_node.proofs.OutsideReplies.{told_alike}
+use Rattle.tl_node.proofs.Heard.{commits_shown, log_shown, manager_alike, stored_commits, stored_log, stored_record}
 use Rattle.tl_node.proofs.RecoveryMarks.{is_finished, marks_so, takes_step}
 
 -- ---- what it hears
 
--- who stores hears of that alone
-pub stored_log : (stamp : ℕ) (log : LogEntry) (told : Reply) → heard (StoreLog stamp log) told ≡ hears_store told
-stored_log stamp log (reply.Store t) = refl
-stored_log stamp log (reply.Manager t) = refl
-
-pub stored_record : (key : Key) (stamp : ℕ) (versions : List Version) (told : Reply) → heard (StoreRecord key stamp versions) told ≡ hears_store told
-stored_record key stamp versions (reply.Store t) = refl
-stored_record key stamp versions (reply.Manager t) = refl
-
-pub loaded_record : (key : Key) (told : Reply) → heard (LoadRecord key) told ≡ hears_record told
-loaded_record key (reply.Store t) = refl
-loaded_record key (reply.Manager t) = refl
-
-loaded_log : (tid : ℕ) (told : Reply) → heard (LoadLog tid) told ≡ hears_log told
-loaded_log tid (reply.Store t) = refl
-loaded_log tid (reply.Manager t) = refl
-
-pub stored_commits : (stamp : ℕ) (set : TidSet) (told : Reply) → heard (StoreCommits stamp set) told ≡ hears_store told
-stored_commits stamp set (reply.Store t) = refl
-stored_commits stamp set (reply.Manager t) = refl
-
-hears_stripping : (lost : Lost) (log : LogCell) (at : ℕ) (told : Reply)
-    → heard (asks_stripping (lost_of lost) log (drop at log.entry.writes) None) told ≡ heeds.hears_strip false (slice_get log.entry.writes at) told
-hears_stripping lost log at told = by (slice_get log.entry.writes at) refl
+hears_stripping : (catalog : Catalog) (lost : Lost) (log : LogCell) (at : ℕ) (told : Reply)
+    → shown_heard catalog (asks_stripping (lost_of lost) log (drop at log.entry.writes) None) told ≡ heeds.hears_strip catalog false (slice_get log.entry.writes at) told
+hears_stripping catalog lost log at told = by (slice_get log.entry.writes at) refl
   where
     by : (key : Option Key) → slice_get log.entry.writes at ≡ key
-        → heard (asks_stripping (lost_of lost) log (drop at log.entry.writes) None) told ≡ heeds.hears_strip false key told
-    by None e = ap (λ keys. heard (asks_stripping (lost_of lost) log keys None) told) (none_left at log.entry.writes e) ∙ stored_log log.stamp (mark_cell 0 flag.Undone log).entry told
-    by (Some key) e = ap (λ keys. heard (asks_stripping (lost_of lost) log keys None) told) (some_left at log.entry.writes key e) ∙ loaded_record key told
+        → shown_heard catalog (asks_stripping (lost_of lost) log (drop at log.entry.writes) None) told ≡ heeds.hears_strip catalog false key told
+    by None e = ap (λ keys. shown_heard catalog (asks_stripping (lost_of lost) log keys None) told) (none_left at log.entry.writes e) ∙ stored_log catalog log.stamp (mark_cell 0 flag.Undone log).entry told
+    by (Some key) e = ap (λ keys. shown_heard catalog (asks_stripping (lost_of lost) log keys None) told) (some_left at log.entry.writes key e)
 
 hears_phase : (core : Core) (gone : ℕ) (later : List Bound) (all : NodeSet) (now : Phase) (told : Reply) → is_awaiting now ≡ true
-    → hears core.layout core.catalog (node_with core (bound.Recover gone ∷ later) (doing_of gone all now)) told ≡ heeds.hears now told
-hears_phase core gone later all (phase.Finding node) told e = told_alike (home_of core.layout node) (request.Orphans node) told
-hears_phase core gone later all (phase.ReadingLog lost) told e = loaded_log lost.tid told
-hears_phase core gone later all (phase.Stripping lost log at false) told e = hears_stripping lost log at told
-hears_phase core gone later all (phase.Stripping lost log at true) told e = stored_record [] 0 (strip lost.tid []) told
-hears_phase core gone later all (phase.Finishing lost committed false) told e = refl
-hears_phase core gone later all (phase.Finishing lost committed true) told e = stored_commits 0 (inserted opening_copy lost.tid) told
-hears_phase core gone later all (phase.EndingLost lost) told e = told_alike (home_of core.layout lost.node) (request.End lost.tid) told
+    → hears core.layout core.catalog (node_with core (bound.Recover gone ∷ later) (doing_of gone all now)) told ≡ heeds.hears core.catalog now told
+hears_phase core gone later all (phase.Finding node) told e = manager_alike core.catalog (home_of core.layout node) (request.Orphans node) told
+hears_phase core gone later all (phase.ReadingLog lost) told e = log_shown core.catalog lost.tid told
+hears_phase core gone later all (phase.Stripping lost log at false) told e = hears_stripping core.catalog lost log at told
+hears_phase core gone later all (phase.Stripping lost log at true) told e = stored_record core.catalog [] 0 (strip lost.tid []) told
+hears_phase core gone later all (phase.Finishing lost committed false) told e = commits_shown core.catalog told
+hears_phase core gone later all (phase.Finishing lost committed true) told e = stored_commits core.catalog 0 (inserted opening_copy lost.tid) told
+hears_phase core gone later all (phase.EndingLost lost) told e = manager_alike core.catalog (home_of core.layout lost.node) (request.End lost.tid) told
 hears_phase core gone later all phase.Over told e = absurd cc
 hears_phase core gone later all phase.Stopped told e = absurd cc
 
@@ -175,7 +151,7 @@ module _ (goes_on : GoesOn) (awaits : Awaits) (ends : Ends) (steps : GoesOnOrEnd
   n = node_with core (bound.Recover gone ∷ later) (doing_of gone all now)
 
   abbrev pub sound : Heard
-  sound = heeds.hears now told
+  sound = heeds.hears core.catalog now told
 
   abbrev pub turn : List Commit → Answer → Turn
   turn commits a = record {
@@ -245,7 +221,7 @@ module _ (goes_on : GoesOn) (awaits : Awaits) (ends : Ends) (steps : GoesOnOrEnd
   leaves new m result e left = subst (λ x. ComesTo core.layout core.catalog n sound told new x result) (sym (ends (turn [] answer.Begun) m e).0)
       (left_comes core new n sound told (bound.Recover gone) later (answer.Recovered gone) todo_is (leaving m e) result left)
 
-  strange_so : outcome.step ≡ None → is_strange core.layout core.catalog n sound answer.Begun ≡ true
+  strange_so : outcome.step ≡ None → is_strange_to core.layout core.catalog n sound ≡ true
   strange_so e = strange_alike (turn [] answer.Begun) awaited e
 
   pub is_strange_so : (s : Option TxnStep) → outcome.step ≡ s → is_refused s ≡ true → ComesTo core.layout core.catalog n sound told core mark.Quiet (Ok next.Strange)
@@ -263,10 +239,10 @@ module _ (goes_on : GoesOn) (awaits : Awaits) (ends : Ends) (steps : GoesOnOrEnd
       both true e f = cc
       both false e f = cc
 
-      by : (s : Option TxnStep) → outcome.step ≡ s → HasMark m s → is_strange core.layout core.catalog n sound answer.Begun ≡ false → (commits : List Commit)
+      by : (s : Option TxnStep) → outcome.step ≡ s → HasMark m s → is_strange_to core.layout core.catalog n sound ≡ false → (commits : List Commit)
           → (unsaid (says_at core.layout core.catalog commits n sound answer.Begun) ≡ marked commits core.number told m)
           ⊎ (says_at core.layout core.catalog commits n sound answer.Begun ≡ marked commits core.number told m)
-      by None e h usual commits = absurd (both (is_strange core.layout core.catalog n sound answer.Begun) (strange_so e) usual)
+      by None e h usual commits = absurd (both (is_strange_to core.layout core.catalog n sound) (strange_so e) usual)
       by (Some (step.Going x)) e h usual commits = inr (tells commits x e ∙ ap (marked commits core.number told) (sym h))
       by (Some (step.Ended x)) e h usual commits = inl (ap unsaid (ends (turn commits answer.Begun) x e).2
           ∙ ap (marked commits core.number told) (sym (h ∙ (ends (turn commits answer.Begun) x e).0)))
@@ -285,15 +261,15 @@ pub record FollowsLaw : Type 0 where
   pub strange_alike : IsStrangeAlike
 
 module _ (law : FollowsLaw) (core : Core) (gone : ℕ) (before after : Recover) (told : Reply) (step_told : Option TxnStep)
-    (fits : IsFit core (work.Recovers gone before)) (heeded : IsTaken before after told step_told) where
+    (fits : IsFit core (work.Recovers gone before)) (heeded : IsTaken core.catalog before after told step_told) where
   -- what the code took the reply for, laid out as the node
   abbrev pub outcome_of : code.Taken
-  outcome_of = code.takes core.layout before.all before.phase (heeds.hears before.phase told)
+  outcome_of = code.takes core.layout before.all before.phase (heeds.hears core.catalog before.phase told)
 
   -- with the statement present, what the law says of the node's parts
   at_present : (new : Core) (m : Mark) (result : Result Next NoMemory)
       → ((later : List Bound) → drop (length core.answers.items) core.statements ≡ bound.Recover gone ∷ later → before.layout ≡ core.layout → is_awaiting before.phase ≡ true
-      → ComesTo core.layout core.catalog (node_with core (bound.Recover gone ∷ later) (doing_of gone before.all before.phase)) (heeds.hears before.phase told) told new m result)
+      → ComesTo core.layout core.catalog (node_with core (bound.Recover gone ∷ later) (doing_of gone before.all before.phase)) (heeds.hears core.catalog before.phase told) told new m result)
       → IsAfter core.layout core.catalog (node_at core (work.Recovers gone before)) told new m result
   at_present new m result h = by (drop (length core.answers.items) core.statements) refl fits
     where
@@ -307,7 +283,7 @@ module _ (law : FollowsLaw) (core : Core) (gone : ℕ) (before after : Recover) 
           (h later (e ∙ ap (λ s. s ∷ later) f.0) f.1 f.2))
 
   taken_is : before.layout ≡ core.layout → heeds.IsAfter core.layout outcome_of after.phase after.next step_told
-  taken_is e = subst (λ l. heeds.IsAfter l (code.takes l before.all before.phase (heeds.hears before.phase told)) after.phase after.next step_told) e heeded.after
+  taken_is e = subst (λ l. heeds.IsAfter l (code.takes l before.all before.phase (heeds.hears core.catalog before.phase told)) after.phase after.next step_told) e heeded.after
 
   pub going_after : (m : Mark) → step_told ≡ Some (step.Going m)
       → IsAfter core.layout core.catalog (node_at core (work.Recovers gone before)) told core m (Ok (next.Goes (work.Recovers gone after)))

@@ -1,6 +1,7 @@
 -- A node that stops at a reply keeps what it owes.
-use Rattle.std.proofs.Common.{◌≡◌, ℕ, true, false, List, [], ◌∷◌, length, drop, Result, Ok, Err, refl, sym, ap, ◌∙◌, subst}
+use Rattle.std.proofs.Common.{◌≡◌, ℕ, Bool, true, false, List, [], ◌∷◌, length, drop, Result, Ok, Err, refl, sym, ap, ◌∙◌, subst}
 use Rattle.std.specs.Prelude.{if◌then◌else◌}
+use Rattle.std.proofs.lemmas.Bool.{or_left}
 use Rattle.tl_base.specs.NodeSet.{no_nodes}
 use Rattle.tl_base.specs.declared.node.NodeSet.{NodeSet}
 use Rattle.tl_base.specs.declared.memory.NoMemory.{NoMemory}
@@ -15,12 +16,14 @@ use Rattle.tl_isolation.specs.declared.entry.Said.{Said}
 use Rattle.tl_protocol.specs.Move.{is_empty}
 use Rattle.tl_protocol.specs.World.{Fresh}
 use Rattle.tl_protocol.specs.World as protocol
-use Rattle.tl_journal.specs.Ask.{Heard, Told}
+use Rattle.tl_journal.specs.Ask.{Heard, Told, Strange}
 use Rattle.tl_journal.specs.Asks.{ToBegin, ToIdle, ToRecover, course_outside}
 use Rattle.tl_journal.specs.Memory.{has_said}
 use Rattle.tl_journal.specs.Node.{Doing, Outside, Stopped, Node, owed_by}
 use Rattle.tl_journal.specs.Says.{says_doing, says_outside}
+use Rattle.tl_journal.specs.Strange.{is_stopped, is_strange_to}
 use Rattle.tl_journal.specs.Takes.{takes_doing, takes_outside}
+use Rattle.tl_journal.proofs.StrangeHeard.{doing_stops}
 use Rattle.tl_ask.specs.Hears.{hears_manager}
 use Rattle.tl_recover.specs.Doing as recovery
 use Rattle.tl_recover.specs.Follows.{is_awaiting}
@@ -30,14 +33,15 @@ use Rattle.tl_txn.specs.Doing.{doing_of}
 use Rattle.tl_txn.specs.declared.phase.Open.{Open}
 use Rattle.tl_txn.specs.declared.phase.Phase.{Phase}
 use Rattle.tl_txn.specs.declared.phase.Phase.TheVariants as phase
-use Rattle.tl_node.specs.After.{Goes, HasStopped, IsAfter, IsHeld, IsTold, Says, Stays, hears, owed_left}
+use Rattle.tl_node.specs.After.{Goes, HasStopped, IsAfter, IsHeld, IsTold, IsToldAt, IsToldSo, Says, Stays, hears, may_be_given, owed_left}
 use Rattle.tl_node.specs.Fits.{FitsAll, FitsCourse, IsBeginning, IsEnding, IsFit, IsReading, IsReadyWith}
 use Rattle.tl_node.specs.Hears.{claim_heard}
 use Rattle.tl_node.specs.Owed.{owed_at, owed_next, owed_of_claim}
-use Rattle.tl_node.specs.View.{doing_so, node_at, reading_so, running_so, stage_of, value_of, work_so}
+use Rattle.tl_node.specs.View.{doing_so, node_at, outside_asks, reading_so, running_so, stage_of, value_of, work_asks, work_so}
 use Rattle.tl_node.specs.declared.kept.Core.{Core}
 use Rattle.tl_node.specs.declared.work.Course.{Course}
 use Rattle.tl_node.specs.declared.work.Course.TheVariants as course
+use Rattle.tl_node.specs.declared.told.Rest.{Rest}
 use Rattle.tl_node.specs.declared.told.Rest.TheVariants as rest
 use Rattle.tl_node.specs.declared.work.Next.{Next}
 use Rattle.tl_node.specs.declared.work.Next.TheVariants as next
@@ -142,20 +146,24 @@ claim_owes core gone later (Told (manager.Given also)) = refl
 claim_owes core gone later (Told other) = refl
 claim_owes core gone later sound = refl
 
-pub stops_owing : (core : Core) (w : Work) (told : Reply) → IsFit core w → is_empty (node_at core w).todo ≡ false
-    → owed_left core.layout core.catalog (node_at core w) told ≡ owed_next w told
-stops_owing core w told fits some = by (drop (length core.answers.items) core.statements) w fits some
+-- by what it hears
+abbrev owed_hearing : Work → Heard → NodeSet
+owed_hearing (work.Outside (outside.Claims gone a)) sound = owed_of_claim gone (claim_heard sound)
+owed_hearing other sound = owed_at other
+
+heard_owing : (core : Core) (w : Work) (sound : Heard) → IsFit core w → is_empty (node_at core w).todo ≡ false
+    → owed_left core.layout core.catalog (node_at core w) sound ≡ owed_hearing w sound
+heard_owing core w sound fits some = by (drop (length core.answers.items) core.statements) w fits some
   where
-    free : (statement : Bound) (later : List Bound) (d : Doing) → IsFree statement d → owed_left core.layout core.catalog (node_with core (statement ∷ later) d) told ≡ no_nodes
+    free : (statement : Bound) (later : List Bound) (d : Doing) → IsFree statement d → owed_left core.layout core.catalog (node_with core (statement ∷ later) d) sound ≡ no_nodes
     free statement later d h =
         let n : Node = node_with core (statement ∷ later) d in
-        subst (λ x. (if has_said (says_doing core.layout core.catalog [] n statement d (hears core.layout core.catalog n told) answer.Begun) then x
-        else owed_by (takes_doing core.layout core.catalog n statement d (hears core.layout core.catalog n told) answer.Begun).doing) ≡ no_nodes) (sym h.1)
-        (own_keeps core.layout core.catalog n statement d (hears core.layout core.catalog n told) answer.Begun h.1 h.0)
+        subst (λ x. (if has_said (says_doing core.layout core.catalog [] n statement d sound answer.Begun) then x
+        else owed_by (takes_doing core.layout core.catalog n statement d sound answer.Begun).doing) ≡ no_nodes) (sym h.1)
+        (own_keeps core.layout core.catalog n statement d sound answer.Begun h.1 h.0)
 
-    foreign : (statement : Bound) (later : List Bound) (d : Doing) → IsForeign d → owed_left core.layout core.catalog (node_with core (statement ∷ later) d) told ≡ owed_by d
-    foreign statement later d h =
-        foreign_keeps core.layout core.catalog (node_with core (statement ∷ later) d) statement d (hears core.layout core.catalog (node_with core (statement ∷ later) d) told) answer.Begun refl h
+    foreign : (statement : Bound) (later : List Bound) (d : Doing) → IsForeign d → owed_left core.layout core.catalog (node_with core (statement ∷ later) d) sound ≡ owed_by d
+    foreign statement later d h = foreign_keeps core.layout core.catalog (node_with core (statement ∷ later) d) statement d sound answer.Begun refl h
 
     idle_free : (statement : Bound) → course_outside statement ≡ ToIdle → IsFree statement Outside
     idle_free statement e = ((λ gone f. apart gone e f), refl)
@@ -164,18 +172,15 @@ stops_owing core w told fits some = by (drop (length core.answers.items) core.st
         apart gone e f = cc
 
     by : (todo : List Bound) (w : Work) → FitsAll core todo w → is_empty todo ≡ false
-        → owed_left core.layout core.catalog (node_with core todo (doing_so todo w)) told ≡ owed_next w told
+        → owed_left core.layout core.catalog (node_with core todo (doing_so todo w)) sound ≡ owed_hearing w sound
     by [] w f e = absurd cc
     by (statement ∷ later) (work.Outside outside.Done) f e = absurd f
     by (statement ∷ later) (work.Outside (outside.Begins txn)) f e =
         free statement later (doing_of Fresh txn.phase) (subst (λ p. IsFree statement (doing_of Fresh p)) (sym f.2) (begin_free statement Fresh phase.Asking f.0 tt))
     by (statement ∷ later) (work.Outside (outside.Idles a)) f e = free statement later Outside (idle_free statement f)
     by (statement ∷ later) (work.Outside (outside.Claims gone a)) f e =
-        subst (λ s. owed_left core.layout core.catalog (node_with core (s ∷ later) Outside) told ≡ owed_of_claim gone (claim_heard (hears_manager told))) (sym f)
-        (subst (λ sound. (if has_said (says_outside (node_with core (bound.Recover gone ∷ later) Outside) (bound.Recover gone) (ToRecover gone) sound) then no_nodes
-        else owed_by (takes_outside core.layout (node_with core (bound.Recover gone ∷ later) Outside) (ToRecover gone) sound).doing)
-        ≡ owed_of_claim gone (claim_heard (hears_manager told)))
-        (sym (hears_claiming core (bound.Recover gone ∷ later) gone a told refl)) (claim_owes core gone later (hears_manager told)))
+        subst (λ s. owed_left core.layout core.catalog (node_with core (s ∷ later) Outside) sound ≡ owed_of_claim gone (claim_heard sound)) (sym f)
+        (claim_owes core gone later sound)
     by (statement ∷ later) (work.Runs r) f e =
         free statement later (running_so statement (stage_of r.stage) r.txn.phase r.course) (course_free core statement r.stage r.txn.phase r.course f.course)
     by (statement ∷ later) (work.Recovers gone recover) f e =
@@ -183,10 +188,28 @@ stops_owing core w told fits some = by (drop (length core.answers.items) core.st
         ∙ recovery_owes gone recover.all recover.phase f.2
     by (statement ∷ later) (work.Stopped nodes) f e = foreign statement later (Stopped nodes) tt
 
+pub stops_owing : (core : Core) (w : Work) (told : Reply) → IsFit core w → is_empty (node_at core w).todo ≡ false
+    → owed_left core.layout core.catalog (node_at core w) (hears core.layout core.catalog (node_at core w) told) ≡ owed_next w told
+stops_owing core w told fits some =
+    heard_owing core w (hears core.layout core.catalog (node_at core w) told) fits some ∙ by (drop (length core.answers.items) core.statements) w fits some
+  where
+    by : (todo : List Bound) (w : Work) → FitsAll core todo w → is_empty todo ≡ false
+        → owed_hearing w (hears core.layout core.catalog (node_with core todo (doing_so todo w)) told) ≡ owed_next w told
+    by [] w f e = absurd cc
+    by (statement ∷ later) (work.Outside outside.Done) f e = absurd f
+    by (statement ∷ later) (work.Outside (outside.Begins txn)) f e = refl
+    by (statement ∷ later) (work.Outside (outside.Idles a)) f e = refl
+    by (statement ∷ later) (work.Outside (outside.Claims gone a)) f e =
+        subst (λ s. owed_of_claim gone (claim_heard (hears core.layout core.catalog (node_with core (s ∷ later) Outside) told)) ≡ owed_of_claim gone (claim_heard (hears_manager told))) (sym f)
+        (ap (λ sound. owed_of_claim gone (claim_heard sound)) (hears_claiming core (bound.Recover gone ∷ later) gone a told refl))
+    by (statement ∷ later) (work.Runs r) f e = refl
+    by (statement ∷ later) (work.Recovers gone recover) f e = refl
+    by (statement ∷ later) (work.Stopped nodes) f e = refl
+
 -- ---- the node that has stopped
 
 pub has_stopped : (core new : Core) (w : Work) (owed : NodeSet) (told : Reply) → IsFit core w → Stays core new → IsHeld (node_at core w) new → owed ≡ owed_next w told
-    → HasStopped core.layout core.catalog (node_at core w) told (value_of new (work.Stopped owed))
+    → HasStopped core.layout core.catalog (node_at core w) (hears core.layout core.catalog (node_at core w) told) (value_of new (work.Stopped owed))
 has_stopped core new w owed told fits stays held e = record {
   number = stays.number;
   doing = ap (λ todo. doing_so todo (work.Stopped owed)) todo_is ∙ left (drop (length core.answers.items) core.statements) held.left
@@ -219,20 +242,20 @@ stopped_fits core new w owed stays held =
 
 pub told_strange : (core new : Core) (w : Work) (owed : NodeSet) (told : Reply) (m n : Mark) → IsFit core w → Stays core new → owed ≡ owed_next w told
     → IsAfter core.layout core.catalog (node_at core w) told new m (Ok next.Strange)
-    → IsTold (value_of core w) told (value_of new (work.Stopped owed)) n rest.Strange
+    → IsToldSo (value_of core w) told (value_of new (work.Stopped owed)) n rest.Strange
 told_strange core new w owed told m n fits stays e after = (has_stopped core new w owed told fits stays after.0 e, after.1)
 
 pub told_wants : (core new : Core) (w : Work) (owed : NodeSet) (told : Reply) (m : Mark) (fault : NoMemory) → IsFit core w → Stays core new → owed ≡ owed_next w told
     → IsAfter core.layout core.catalog (node_at core w) told new m (Err fault)
-    → IsTold (value_of core w) told (value_of new (work.Stopped owed)) m rest.NoMemory
+    → IsToldSo (value_of core w) told (value_of new (work.Stopped owed)) m rest.NoMemory
 told_wants core new w owed told m fault fits stays e after = (has_stopped core new w owed told fits stays after.0 e, after.1)
 
 pub told_goes : (core new : Core) (w v : Work) (told : Reply) (m : Mark) → IsAfter core.layout core.catalog (node_at core w) told new m (Ok (next.Goes v))
-    → IsTold (value_of core w) told (value_of new v) m rest.Going
+    → IsToldSo (value_of core w) told (value_of new v) m rest.Going
 told_goes core new w v told m after = (after.stands, after.entries)
 
 pub told_says : (core new : Core) (w v : Work) (told : Reply) (m : Mark) (said : Said) → IsAfter core.layout core.catalog (node_at core w) told new m (Ok (next.Says v said))
-    → IsTold (value_of core w) told (value_of new v) m (rest.Said said)
+    → IsToldSo (value_of core w) told (value_of new v) m (rest.Said said)
 told_says core new w v told m said after = after.so
 
 -- a stopped node stays so
@@ -258,13 +281,13 @@ module _ (core new : Core) (w : Work) (told : Reply) (m : Mark) (result : Result
   after_so : (r : Result Next NoMemory) → result ≡ r → IsAfter core.layout core.catalog (node_at core w) told new m r
   after_so r e = subst (λ (x : Result Next NoMemory). IsAfter core.layout core.catalog (node_at core w) told new m x) e after
 
-  pub goes_told : (v : Work) → result ≡ Ok (next.Goes v) → IsTold (value_of core w) told (value_of new v) m rest.Going
+  pub goes_told : (v : Work) → result ≡ Ok (next.Goes v) → IsToldSo (value_of core w) told (value_of new v) m rest.Going
   goes_told v e = told_goes core new w v told m (after_so (Ok (next.Goes v)) e)
 
   pub goes_fits : (v : Work) → result ≡ Ok (next.Goes v) → IsFit new v
   goes_fits v e = let a : Goes core.layout core.catalog (node_at core w) (hears core.layout core.catalog (node_at core w) told) told m new v = after_so (Ok (next.Goes v)) e in a.fits
 
-  pub says_told : (v : Work) (said : Said) → result ≡ Ok (next.Says v said) → IsTold (value_of core w) told (value_of new v) m (rest.Said said)
+  pub says_told : (v : Work) (said : Said) → result ≡ Ok (next.Says v said) → IsToldSo (value_of core w) told (value_of new v) m (rest.Said said)
   says_told v said e = told_says core new w v told m said (after_so (Ok (next.Says v said)) e)
 
   pub says_fits : (v : Work) (said : Said) → result ≡ Ok (next.Says v said) → IsFit new v
@@ -272,15 +295,89 @@ module _ (core new : Core) (w : Work) (told : Reply) (m : Mark) (result : Result
       let a : Says core.layout core.catalog (node_at core w) (hears core.layout core.catalog (node_at core w) told) told m new v said = after_so (Ok (next.Says v said)) e in a.fits
 
   pub strange_told : (owed : NodeSet) (n : Mark) → IsFit core w → Stays core new → owed ≡ owed_next w told → result ≡ Ok next.Strange
-      → IsTold (value_of core w) told (value_of new (work.Stopped owed)) n rest.Strange
+      → IsToldSo (value_of core w) told (value_of new (work.Stopped owed)) n rest.Strange
   strange_told owed n fits stays e f = told_strange core new w owed told m n fits stays e (after_so (Ok next.Strange) f)
 
   pub strange_fits : (owed : NodeSet) → Stays core new → result ≡ Ok next.Strange → IsFit new (work.Stopped owed)
   strange_fits owed stays f = stopped_fits core new w owed stays (after_so (Ok next.Strange) f).0
 
   pub wants_told : (owed : NodeSet) (fault : NoMemory) → IsFit core w → Stays core new → owed ≡ owed_next w told → result ≡ Err fault
-      → IsTold (value_of core w) told (value_of new (work.Stopped owed)) m rest.NoMemory
+      → IsToldSo (value_of core w) told (value_of new (work.Stopped owed)) m rest.NoMemory
   wants_told owed fault fits stays e f = told_wants core new w owed told m fault fits stays e (after_so (Err fault) f)
 
   pub wants_fits : (owed : NodeSet) (fault : NoMemory) → Stays core new → result ≡ Err fault → IsFit new (work.Stopped owed)
   wants_fits owed fault stays f = stopped_fits core new w owed stays (after_so (Err fault) f).0
+
+-- ---- where no place gives the stamp of the reply to the request
+
+-- a node that hears this has stopped
+strange_at : (core : Core) (w : Work) → is_empty (node_at core w).todo ≡ false → is_strange_to core.layout core.catalog (node_at core w) Strange ≡ true
+strange_at core w some = by (drop (length core.answers.items) core.statements) some
+  where
+    stops : (later : List Bound) (statement : Bound) (d : Doing)
+        → is_stopped (takes_doing core.layout core.catalog (node_with core (statement ∷ later) d) statement d Strange answer.Begun).doing ≡ true
+    stops later statement (Stopped nodes) = refl
+    stops later statement d = doing_stops core.layout core.catalog (node_with core (statement ∷ later) d) answer.Begun statement d refl
+
+    by : (todo : List Bound) → is_empty todo ≡ false → is_strange_to core.layout core.catalog (node_with core todo (doing_so todo w)) Strange ≡ true
+    by [] e = absurd cc
+    by (statement ∷ later) e = or_left _ _ (stops later statement (work_so statement w))
+
+-- it asks, so a statement is left
+asks_left : (core : Core) (w : Work) (told : Reply) → IsFit core w → may_be_given (work_asks w) told ≡ false → is_empty (node_at core w).todo ≡ false
+asks_left core w told fits refused = by (drop (length core.answers.items) core.statements) w fits refused
+  where
+    by : (todo : List Bound) (w : Work) → FitsAll core todo w → may_be_given (work_asks w) told ≡ false → is_empty todo ≡ false
+    by [] (work.Outside o) f e = absurd (asks_none o f e)
+      where
+        asks_none : (o : TheOutside) → o ≡ outside.Done → may_be_given (outside_asks o) told ≡ false → ⊥
+        asks_none o f e = let g : may_be_given (outside_asks outside.Done) told ≡ false = subst (λ (x : TheOutside). may_be_given (outside_asks x) told ≡ false) f e in cc
+    by [] (work.Runs r) f e = absurd f
+    by [] (work.Recovers gone recover) f e = absurd f
+    by [] (work.Stopped nodes) f e = absurd f
+    by (statement ∷ later) w f e = refl
+
+-- what it owes is what it was to recover
+owes_at : (w : Work) → owed_hearing w Strange ≡ owed_at w
+owes_at (work.Outside outside.Done) = refl
+owes_at (work.Outside (outside.Begins txn)) = refl
+owes_at (work.Outside (outside.Idles a)) = refl
+owes_at (work.Outside (outside.Claims gone a)) = refl
+owes_at (work.Runs r) = refl
+owes_at (work.Recovers gone recover) = refl
+owes_at (work.Stopped nodes) = refl
+
+pub refused_told : (core : Core) (w : Work) (told : Reply) (m : Mark) → IsFit core w → may_be_given (work_asks w) told ≡ false
+    → IsTold (value_of core w) told (value_of core (work.Stopped (owed_at w))) m rest.Strange
+refused_told core w told m fits refused =
+    subst (λ (b : Bool). IsToldAt (value_of core w) (if b then hears core.layout core.catalog (node_at core w) told else Strange) told (value_of core (work.Stopped (owed_at w))) m rest.Strange)
+    (sym refused) (
+      record {
+        number = refl;
+        doing = left (drop (length core.answers.items) core.statements) some ∙ ap Stopped (sym (heard_owing core w Strange fits some ∙ owes_at w));
+        ask = refl;
+        settings_stay = refl;
+        catalog_stays = refl;
+      },
+      strange_at core w some,
+    )
+  where
+    some : is_empty (node_at core w).todo ≡ false
+    some = asks_left core w told fits refused
+
+    left : (todo : List Bound) → is_empty todo ≡ false → doing_so todo (work.Stopped (owed_at w)) ≡ Stopped (owed_at w)
+    left [] h = absurd cc
+    left (statement ∷ later) h = refl
+
+pub refused_fits : (core : Core) (w : Work) (told : Reply) → IsFit core w → may_be_given (work_asks w) told ≡ false → IsFit core (work.Stopped (owed_at w))
+refused_fits core w told fits refused = left (drop (length core.answers.items) core.statements) (asks_left core w told fits refused)
+  where
+    left : (todo : List Bound) → is_empty todo ≡ false → FitsAll core todo (work.Stopped (owed_at w))
+    left [] h = absurd cc
+    left (statement ∷ later) h = tt
+
+-- one whose stamp may be
+pub given_told : (core new : Core) (w v : Work) (told : Reply) (m : Mark) (r : Rest) → may_be_given (work_asks w) told ≡ true
+    → IsToldSo (value_of core w) told (value_of new v) m r → IsTold (value_of core w) told (value_of new v) m r
+given_told core new w v told m r given h =
+    subst (λ (b : Bool). IsToldAt (value_of core w) (if b then hears core.layout core.catalog (node_at core w) told else Strange) told (value_of new v) m r) (sym given) h

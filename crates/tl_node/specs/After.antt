@@ -1,5 +1,5 @@
 -- What a reply leads to.
-use Rattle.std.specs.Prelude.{◌≡◌, ◌⊎◌, ℕ, true, false, List, [], ◌∷◌, ◌++◌, Option, Some, None, drop, Result, Ok, Err, if◌then◌else◌}
+use Rattle.std.specs.Prelude.{◌≡◌, ◌⊎◌, ℕ, Bool, true, false, List, [], ◌∷◌, ◌++◌, Option, Some, None, drop, Result, Ok, Err, if◌then◌else◌}
 use Rattle.tl_base.specs.declared.memory.NoMemory.{NoMemory}
 use Rattle.tl_base.specs.declared.node.NodeSet.{NodeSet}
 use Rattle.tl_base.specs.declared.place.Settings.{Settings}
@@ -21,11 +21,12 @@ use Rattle.tl_protocol.specs.Move.{is_empty}
 use Rattle.tl_protocol.specs.Told.{count_in}
 use Rattle.tl_journal.specs.Ask.{Ask, Heard, Strange}
 use Rattle.tl_journal.specs.Asks.{asks}
-use Rattle.tl_journal.specs.Bytes.{heard}
+use Rattle.tl_ask.specs.Given.{is_outcome_of, shown_heard}
+use Rattle.tl_ask.specs.declared.asked.Asked.{Asked}
 use Rattle.tl_journal.specs.Memory.{has_said, is_ending, unsaid}
 use Rattle.tl_journal.specs.Node.{Doing, Inside, Stopped, Node, owed_by}
 use Rattle.tl_journal.specs.Says.{says_at}
-use Rattle.tl_journal.specs.Strange.{is_strange}
+use Rattle.tl_journal.specs.Strange.{is_strange_to}
 use Rattle.tl_journal.specs.Takes.{MayMean, takes}
 use Rattle.tl_node.specs.Fits.{FitsAll, IsFit, OwnSuitsNode}
 use Rattle.tl_node.specs.Seen.{seen}
@@ -42,14 +43,23 @@ use Rattle.tl_txn.specs.declared.phase.Open.{Open}
 use Rattle.tl_txn.specs.declared.phase.Phase.{Phase}
 use Rattle.tl_txn.specs.declared.phase.Phase.TheVariants as phase
 
--- what the reply says to one who asked this, or asked nothing
-abbrev pub heard_by : Option Ask → Reply → Heard
-heard_by None told = Strange
-heard_by (Some ask) told = heard ask told
+-- what is heard of a reply whose stamp may be by one who asked this, or asked nothing
+abbrev pub heard_by : Catalog → Option Ask → Reply → Heard
+heard_by catalog None told = Strange
+heard_by catalog (Some ask) told = shown_heard catalog ask told
 
--- what a node hears; a request that lacks what its code doesn't keep is of the same kind
+-- by a node; a request that lacks what its code doesn't keep is of the same kind
 abbrev pub hears : Settings → Catalog → Node → Reply → Heard
-hears settings catalog node told = heard_by (asks settings catalog node) told
+hears settings catalog node told = heard_by catalog (asks settings catalog node) told
+
+-- the reply has a stamp that the request may be given
+abbrev pub may_be_given : Option Asked → Reply → Bool
+may_be_given None told = true
+may_be_given (Some a) told = is_outcome_of a.request told
+
+-- what a node hears that has its request in hand
+abbrev pub told_heard : NodeValue → Reply → Heard
+told_heard v told = if may_be_given v.ask told then hears v.settings v.catalog v.node told else Strange
 
 -- ---- what is told
 
@@ -122,7 +132,7 @@ pub record Says (settings : Settings) (catalog : Catalog) (n : Node) (sound : He
 -- memory was wanted: what would be said isn't; it never comes to that at the end of a transaction
 pub record Wants (settings : Settings) (catalog : Catalog) (n : Node) (sound : Heard) (told : Reply) (m : Mark) : Type 0 where
   pub no_end : is_ending n.doing ≡ false
-  pub entries : is_strange settings catalog n sound answer.Begun ≡ false
+  pub entries : is_strange_to settings catalog n sound ≡ false
       → (commits : List Commit) → (unsaid (says_at settings catalog commits n sound answer.Begun) ≡ marked commits n.number told m)
       ⊎ (says_at settings catalog commits n sound answer.Begun ≡ marked commits n.number told m)
 
@@ -133,7 +143,7 @@ pub record IsHeld (n : Node) (core : Core) : Type 0 where
 
 -- the node n of the law hears this, which the reply says
 abbrev pub ComesTo : Settings → Catalog → Node → Heard → Reply → Core → Mark → Result Next NoMemory → Type 0
-ComesTo settings catalog n sound told core m (Ok next.Strange) = IsHeld n core × (is_strange settings catalog n sound answer.Begun ≡ true)
+ComesTo settings catalog n sound told core m (Ok next.Strange) = IsHeld n core × (is_strange_to settings catalog n sound ≡ true)
 ComesTo settings catalog n sound told core m (Ok (next.Goes w)) = Goes settings catalog n sound told m core w
 ComesTo settings catalog n sound told core m (Ok (next.Says w said)) = Says settings catalog n sound told m core w said
 ComesTo settings catalog n sound told core m (Err e) = IsHeld n core × Wants settings catalog n sound told m
@@ -148,26 +158,33 @@ pub record Stays (old new : Core) : Type 0 where
   pub statements : new.statements ≡ old.statements
   pub number : new.number ≡ old.number
 
--- whom the node leaves to be recovered where it stops at this reply
-abbrev pub owed_left : Settings → Catalog → Node → Reply → NodeSet
-owed_left settings catalog n told =
-    if has_said (says_at settings catalog [] n (hears settings catalog n told) answer.Begun) then owed_by n.doing
-    else owed_by (takes settings catalog n (hears settings catalog n told) answer.Begun).doing
+-- whom the node leaves to be recovered where it hears this and stops
+abbrev pub owed_left : Settings → Catalog → Node → Heard → NodeSet
+owed_left settings catalog n sound =
+    if has_said (says_at settings catalog [] n sound answer.Begun) then owed_by n.doing
+    else owed_by (takes settings catalog n sound answer.Begun).doing
 
 -- a node that asks nothing more
-pub record HasStopped (settings : Settings) (catalog : Catalog) (n : Node) (told : Reply) (v : NodeValue) : Type 0 where
+pub record HasStopped (settings : Settings) (catalog : Catalog) (n : Node) (sound : Heard) (v : NodeValue) : Type 0 where
   pub number : v.node.number ≡ n.number
-  pub doing : v.node.doing ≡ Stopped (owed_left settings catalog n told)
+  pub doing : v.node.doing ≡ Stopped (owed_left settings catalog n sound)
   pub ask : v.ask ≡ None
   pub settings_stay : v.settings ≡ settings
   pub catalog_stays : v.catalog ≡ catalog
 
--- what is told of the reply, and the node after it
+-- what is told of the reply where the node hears this, and the node after it
+abbrev pub IsToldAt : NodeValue → Heard → Reply → NodeValue → Mark → Rest → Type 0
+IsToldAt v sound told after m rest.Going =
+    StandsFor v.settings v.catalog (takes v.settings v.catalog v.node sound answer.Begun) after
+    × ((commits : List Commit) → says_at v.settings v.catalog commits v.node sound answer.Begun ≡ marked commits v.node.number told m)
+IsToldAt v sound told after m (rest.Said said) = OwnSuitsNode v.catalog v.node → SaysSo v.settings v.catalog v.node sound told m said after
+IsToldAt v sound told after m rest.Strange =
+    HasStopped v.settings v.catalog v.node sound after × (is_strange_to v.settings v.catalog v.node sound ≡ true)
+IsToldAt v sound told after m rest.NoMemory = HasStopped v.settings v.catalog v.node sound after × Wants v.settings v.catalog v.node sound told m
+
+-- where the reply's stamp may be
+abbrev pub IsToldSo : NodeValue → Reply → NodeValue → Mark → Rest → Type 0
+IsToldSo v told after m r = IsToldAt v (hears v.settings v.catalog v.node told) told after m r
+
 abbrev pub IsTold : NodeValue → Reply → NodeValue → Mark → Rest → Type 0
-IsTold v told after m rest.Going =
-    StandsFor v.settings v.catalog (takes v.settings v.catalog v.node (hears v.settings v.catalog v.node told) answer.Begun) after
-    × ((commits : List Commit) → says_at v.settings v.catalog commits v.node (hears v.settings v.catalog v.node told) answer.Begun ≡ marked commits v.node.number told m)
-IsTold v told after m (rest.Said said) = OwnSuitsNode v.catalog v.node → SaysSo v.settings v.catalog v.node (hears v.settings v.catalog v.node told) told m said after
-IsTold v told after m rest.Strange =
-    HasStopped v.settings v.catalog v.node told after × (is_strange v.settings v.catalog v.node (hears v.settings v.catalog v.node told) answer.Begun ≡ true)
-IsTold v told after m rest.NoMemory = HasStopped v.settings v.catalog v.node told after × Wants v.settings v.catalog v.node (hears v.settings v.catalog v.node told) told m
+IsTold v told after m r = IsToldAt v (told_heard v told) told after m r

@@ -40,9 +40,9 @@ stage_of stage.Fresh = Fresh
 stage_of stage.Opened = Opened
 stage_of (stage.Answering told) = Answering told
 
--- the read that is asked; its key is in the request
+-- the read that is asked
 abbrev pub head_of : Read → law.Read
-head_of read.Point = law.Point []
+head_of (read.Point key) = law.Point key
 head_of (read.Range r) = law.Range r.shard r.from r.first r.before
 
 -- the reads of a statement, of which this one is in hand

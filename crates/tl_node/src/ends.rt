@@ -148,7 +148,7 @@ fn end_on(
     ensures stays { Stays core.old core.new }
 {
     transactions_follow_the_node();
-    match txn.heed(reply) {
+    match txn.heed(&core.catalog, reply) {
         Some(TxnStep::Going(mark)) => (mark, go_to_end(core, txn, stage, mark)),
         Some(TxnStep::NoMemory(mark)) => (mark, Err(NoMemory)),
         Some(TxnStep::Ready(_)) => (Mark::Quiet, Ok(Next::Strange)),

@@ -5,13 +5,14 @@ ghost use Rattle.std.specs.Option.{option_copied};
 ghost use Rattle.tl_manager.specs.declared.request.ManagerRequest.TheVariants as asked_of;
 ghost use Rattle.tl_protocol.specs.Move.{is_empty};
 ghost use Rattle.tl_journal.specs.Node.{opening_node, owed_by};
-ghost use Rattle.tl_node.specs.After.{IsAfter, IsTold, Stays};
+ghost use Rattle.tl_node.specs.After.{IsAfter, IsTold, IsToldSo, Stays, may_be_given};
 ghost use Rattle.tl_node.specs.Fits.{IsFit};
 ghost use Rattle.tl_ask.specs.Hears.{hears_manager};
 ghost use Rattle.tl_node.specs.Hears.{claim_heard};
 ghost use Rattle.tl_node.specs.New.{IsNew};
 ghost use Rattle.tl_node.specs.Owed.{owed_at, owed_next, owed_of_claim};
-ghost use Rattle.tl_node.specs.View.{StandsFor, course_asks, node_at, outside_asks, value_of};
+ghost use Rattle.tl_node.specs.declared.work.Work.TheVariants as stopped_work;
+ghost use Rattle.tl_node.specs.View.{StandsFor, course_asks, node_at, outside_asks, value_of, work_asks};
 
 use crate::hears::{Claim, hear_claim};
 use crate::kept::Core;
@@ -22,7 +23,7 @@ use crate::work::{Course, Next, Outside, Running, Work};
 use std::alloc::Global;
 use std::marker::Model;
 use std::mem;
-use tl_ask::{Asked, Layout};
+use tl_ask::{Asked, Layout, is_outcome_of};
 use tl_base::{Duplicate, Items, NoMemory, NodeId, NodeSet, PlaceId};
 use tl_collect::Floors;
 use tl_isolation::{Answer, Bound, Session};
@@ -77,12 +78,7 @@ impl Node {
     pub fn ask(&self) -> Option<(PlaceId, &Request)>
         ensures { MatchOption result (self.now.ask ≡ None) (λ asked. self.now.ask ≡ Some (record { place = asked.0; request = asked.1.now })) }
     {
-        match &self.work {
-            Work::Outside(outside) => ask_outside(outside),
-            Work::Runs(running) => ask_running(running),
-            Work::Recovers { gone: _, recover } => recover.ask(),
-            Work::Stopped(_) => None,
-        }
+        ask_work(&self.work)
     }
 
     /// Takes the reply to what it asked.
@@ -92,7 +88,7 @@ impl Node {
         ensures todo { self.old.node.todo ≡ drop (length self.old.node.answers) self.old.session }
     {
         let work = mem::replace(&mut self.work, Work::Stopped(NodeSet::new()));
-        let (work, told) = take_reply(&mut self.core, work, reply);
+        let (work, told) = take_given(&mut self.core, work, reply);
         self.work = work;
         told
     }
@@ -155,10 +151,42 @@ fn opening_core(alloc: Global, session: &Session, setup: &Setup) -> Result<Core,
     })
 }
 
+/// What the node is at after the reply, and what it tells. A reply with a stamp that no place gives to the request is strange.
+fn take_given(core: &mut Core, work: Work, reply: &Reply) -> (Work, Told)
+    requires { IsFit core.old work }
+    ensures told { IsTold (value_of core.old work) reply.now (value_of core.new result.0) result.1.mark result.1.rest }
+    ensures fits { IsFit core.new result.0 }
+    ensures stays { Stays core.old core.new }
+{
+    if may_be_given(&work, reply) {
+        take_reply(core, work, reply)
+    } else {
+        let mark = Mark::Quiet;
+        let rest = Rest::Strange;
+        (stopped(work), Told { mark, rest })
+    }
+}
+
+/// It has stopped, and keeps what it was to recover.
+fn stopped(work: Work) -> Work
+    ensures { result ≡ stopped_work.Stopped (owed_at work) }
+{
+    Work::Stopped(owed_by(&work))
+}
+
+fn may_be_given(work: &Work, reply: &Reply) -> bool
+    ensures { result ≡ may_be_given (work_asks work.now) reply.now }
+{
+    match ask_work(work) {
+        Some((_, request)) => is_outcome_of(request, reply),
+        None => true,
+    }
+}
+
 /// What the node is at after the reply, and what it tells. Where it stops, it keeps what it was to recover.
 fn take_reply(core: &mut Core, work: Work, reply: &Reply) -> (Work, Told)
     requires { IsFit core.old work }
-    ensures told { IsTold (value_of core.old work) reply.now (value_of core.new result.0) result.1.mark result.1.rest }
+    ensures told { IsToldSo (value_of core.old work) reply.now (value_of core.new result.0) result.1.mark result.1.rest }
     ensures fits { IsFit core.new result.0 }
     ensures stays { Stays core.old core.new }
 {
@@ -245,6 +273,17 @@ fn ask_txn(txn: &Txn) -> Option<(PlaceId, &Request)>
     ensures { MatchOption result (txn.now.next ≡ None) (λ asked. txn.now.next ≡ Some (record { place = asked.0; request = asked.1.now })) }
 {
     txn.ask()
+}
+
+fn ask_work(work: &Work) -> Option<(PlaceId, &Request)>
+    ensures { MatchOption result (work_asks work.now ≡ None) (λ asked. work_asks work.now ≡ Some (record { place = asked.0; request = asked.1.now })) }
+{
+    match work {
+        Work::Outside(outside) => ask_outside(outside),
+        Work::Runs(running) => ask_running(running),
+        Work::Recovers { gone: _, recover } => recover.ask(),
+        Work::Stopped(_) => None,
+    }
 }
 
 fn ask_outside(outside: &Outside) -> Option<(PlaceId, &Request)>

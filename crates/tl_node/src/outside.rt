@@ -137,7 +137,7 @@ pub fn take_recovery(
     ensures stays { Stays core.old core.new }
 {
     recoveries_follow_the_node();
-    match recover.heed(reply) {
+    match recover.heed(&core.catalog, reply) {
         Some(TxnStep::Going(mark)) => (mark, Ok(Next::Goes(Work::Recovers { gone, recover }))),
         Some(TxnStep::Ended(mark)) => (mark, answer_and_leave(core, Answer::Recovered(gone))),
         Some(TxnStep::NoMemory(mark)) => (mark, Err(NoMemory)),

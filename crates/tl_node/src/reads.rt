@@ -92,7 +92,7 @@ pub fn take_read(
     ensures stays { Stays core.old core.new }
 {
     reads_follow();
-    match txn.heed(reply) {
+    match txn.heed(&core.catalog, reply) {
         Some(TxnStep::Going(mark)) => (
             mark,
             Ok(Next::Goes(running(txn, stage, Course::Reads(reading)))),

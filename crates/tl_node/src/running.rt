@@ -3,7 +3,6 @@
 ghost use Rattle.std.specs.Prelude.{◌≡◌, true, false, nat_le, IfOk, Some, length, slice_get};
 ghost use Rattle.std.specs.Option.{option_copied};
 ghost use Rattle.tl_descriptor.specs.Tids.{TidSet};
-ghost use Rattle.tl_ask.specs.Hears.{hears_manager};
 ghost use Rattle.tl_isolation.specs.declared.bound.Bound.{Bound};
 ghost use Rattle.tl_plan.specs.Plan.{accesses_in};
 ghost use Rattle.tl_journal.specs.Asks.{ToIdle, ToCommit, ToGiveUp, course_in, other_manager, reading_course};
@@ -13,6 +12,7 @@ ghost use Rattle.tl_txn.specs.Calls.{IsReady, own_in};
 ghost use Rattle.tl_node.specs.After.{ComesTo, IsAfter, Opens, Stays};
 ghost use Rattle.tl_node.specs.Begun.{AnswersOn, Enters, EntersBy, HasBegun, began_floor, began_mark};
 ghost use Rattle.tl_node.specs.Fits.{HasPresent, IsFit, IsOwn, TakesStatements};
+ghost use Rattle.tl_node.specs.Hears.{manager_says};
 ghost use Rattle.tl_node.specs.Leads.{Leads, is_at_once};
 ghost use Rattle.tl_node.specs.Present.{is_begin};
 ghost use Rattle.tl_node.specs.View.{node_at, node_so, stage_of};
@@ -25,7 +25,7 @@ use crate::kept::Core;
 use crate::reads::{read_next, take_idle, take_read};
 use crate::work::{Course, Next, Outside, Reading, Running, Stage, Work};
 use tl_answer::is_refusal;
-use tl_ask::{ask_manager, hear_manager};
+use tl_ask::ask_manager;
 use tl_base::{Duplicate, Items, NoMemory};
 use tl_descriptor::Descriptor;
 use tl_isolation::{Answer, Bound};
@@ -64,7 +64,7 @@ pub fn take_begin(core: &mut Core, mut txn: Txn, reply: &Reply) -> (Mark, Result
     ensures after { IsAfter core.old.layout core.old.catalog (node_at core.old (work.Runs (record { txn = txn; stage = stages.Fresh; course = way.Begins }))) reply.now core.new result.0 result.1 }
     ensures stays { Stays core.old core.new }
 {
-    match txn.heed(reply) {
+    match txn.heed(&core.catalog, reply) {
         Some(TxnStep::Going(mark)) => (
             mark,
             Ok(Next::Goes(running(txn, Stage::Fresh, Course::Begins))),
@@ -82,7 +82,7 @@ fn begun(core: &mut Core, txn: Txn, reply: &Reply) -> Result<Next, NoMemory>
     requires present { HasPresent core.old (λ statement. Unit {0}) }
     requires own { IsOwn core.old txn }
     requires begun { HasBegun txn reply.now }
-    ensures after { (seen : TidSet) → ComesTo core.old.layout core.old.catalog (node_so core.old (law.Noted seen)) (hears_manager reply.now) reply.now core.new (began_mark reply.now) result }
+    ensures after { (seen : TidSet) → ComesTo core.old.layout core.old.catalog (node_so core.old (law.Noted seen)) (manager_says reply.now) reply.now core.new (began_mark reply.now) result }
     ensures stays { Stays core.old core.new }
 {
     match hear_began(reply) {
@@ -93,17 +93,17 @@ fn begun(core: &mut Core, txn: Txn, reply: &Reply) -> Result<Next, NoMemory>
 
 /// The low-water mark of the manager that gave a number; `None` where the reply gives none.
 fn hear_began(reply: &Reply) -> Option<&Descriptor>
-    ensures { option_copied result ≡ began_floor (hears_manager reply.now) }
+    ensures { option_copied result ≡ began_floor (manager_says reply.now) }
 {
-    match hear_manager(reply) {
-        Some(
+    match reply {
+        Reply::Manager(
             ManagerReply::Began {
                 tid: _,
                 snapshot: _,
                 floor,
             },
         ) => Some(floor),
-        Some(_) | None => None,
+        Reply::Manager(_) | Reply::Store(_) => None,
     }
 }
 

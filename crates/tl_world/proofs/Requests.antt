@@ -25,7 +25,7 @@ use Rattle.tl_isolation.specs.History.{state_after}
 use Rattle.tl_isolation.specs.Script.{setup_of}
 use Rattle.tl_protocol.proofs.Frames.{some_same}
 use Rattle.tl_journal.specs.declared.event.Event.{Event}
-use Rattle.tl_journal.specs.Ask.{Ask, AskManager, Told}
+use Rattle.tl_journal.specs.Ask.{Ask, AskManager, Heard, Told}
 use Rattle.tl_journal.specs.Asks.{asks, asks_inside}
 use Rattle.tl_journal.specs.Bytes.{heard, home_of, place_of, written}
 use Rattle.tl_journal.specs.Journal.{AreServed, IsCall, IsCut, IsEvent, IsRequest, answer_said, entries_told, has_vanished, is_post, manager_log, node_after, session_of}
@@ -33,7 +33,7 @@ use Rattle.tl_journal.specs.Law.{AreFirst, IsRun}
 use Rattle.tl_journal.specs.Memory.{cut_short, has_said, is_cut, unsaid}
 use Rattle.tl_journal.specs.Node.{Doing, Inside, Node, owed_by}
 use Rattle.tl_journal.specs.Says.{says_at}
-use Rattle.tl_journal.specs.Strange.{is_odd_for, is_stopped, is_strange}
+use Rattle.tl_journal.specs.Strange.{is_odd_for, is_stopped, is_strange, sound_heard, stops_at}
 use Rattle.tl_journal.specs.Takes.{MayMean, takes}
 use Rattle.tl_journal.proofs.Elsewhere.{after_cut, after_own, said_same}
 use Rattle.tl_journal.proofs.FirstCommits.{first_commits}
@@ -44,6 +44,7 @@ use Rattle.tl_journal.proofs.Posted.{home_among}
 use Rattle.tl_journal.proofs.StoreEvents.{length_next}
 use Rattle.tl_journal.proofs.Requests.{request_no_post}
 use Rattle.tl_journal.proofs.Stood.{Stood, vanished_same}
+use Rattle.tl_journal.proofs.StrangeHeard.{heard_as_said, stops_alike}
 use Rattle.tl_journal.proofs.StrangeReplies.{nothing_strange}
 use Rattle.tl_node.specs.After.{answer_in, marked, said_so, statement_in}
 use Rattle.tl_node.specs.Fits.{OwnSuitsNode}
@@ -220,15 +221,15 @@ module _ (script : Script) (settings : Settings) (past : List Event) (run : IsRu
     some_run : IsRun script settings (past ++ event some_event.0 ∷ [])
     some_run = grows (event some_event.0) makes.few (makes.served some_event.0) some_event.1
 
-    sane_for : (told : Answer) → is_strange settings script.catalog node (heard ask p) told ≡ false
-    sane_for told = nothing_strange script settings past (event some_event.0) [] some_run makes.rows (no_post some_event.0) session makes.is_session ask makes.asked told
-
-    pub sane : is_strange settings script.catalog node (heard ask p) answer.Begun ≡ false
-    sane = sane_for answer.Begun
+    pub sane : is_strange settings script.catalog node ask p ≡ false
+    sane = nothing_strange script settings past (event some_event.0) [] some_run makes.rows (no_post some_event.0) session makes.is_session ask makes.asked
 
     -- nor does the node stop at it
     never_stops : (told : Answer) → is_stopped (takes settings script.catalog node (heard ask p) told).doing ≡ false
-    never_stops told = (or_parts (is_stopped (takes settings script.catalog node (heard ask p) told).doing) (is_odd_for node.doing (heard ask p)) (sane_for told)).0
+    never_stops told =
+        stops_alike settings script.catalog node (heard ask p) told
+        ∙ subst (λ (x : Heard). stops_at settings script.catalog node x ≡ false) (heard_as_said settings script.catalog node ask p makes.asked sane)
+        (or_parts (stops_at settings script.catalog node (sound_heard script.catalog ask p)) (is_odd_for node.doing (sound_heard script.catalog ask p)) sane).0
 
     -- of the commits so far the snapshot of a transaction that begins has the first ones and no others
     pub first : (tid : ℕ) (snapshot floor : TidSet) → p ≡ reply.Manager (manager.Began tid snapshot floor) → AreFirst snapshot commits

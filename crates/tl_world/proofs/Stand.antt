@@ -148,7 +148,7 @@ module _ (served_law : LogsAreServed) (own_law : OwnSuitsRuns) (script : Script)
     so : (after : NodeValue) (m : Mark) (r : Rest) → IsTold v p after m r → Happens script w.settings w.events run number session ask p makes after m r
     so after m r t =
         happens script w.settings w.events run number session ask p makes after m r (own_law script w.settings w.events run number session k.is_session runs)
-        (told_of w.settings script.catalog node ask p asks_it v after m r known.1.stands (sane script w.settings w.events run number session ask p makes) t)
+        (told_of w.settings script.catalog node ask p asks_it (sane script w.settings w.events run number session ask p makes) v known.1.stands after m r t)
 
     -- the node goes on, and says nothing
     goes : (after : NodeValue) (m : Mark) → IsTold v p after m rest.Going → after.session ≡ v.session
@@ -194,7 +194,7 @@ module _ (served_law : LogsAreServed) (own_law : OwnSuitsRuns) (script : Script)
         → StandsBut number script (world_with w (requested slot after (written ask) p) q (event (marked_in w.commits number p m)))
     untold after m said memory single t =
         subst (λ es. StandsBut number script (world_with w (requested slot after (written ask) p) q (event es))) (marks m)
-        (let told = told_of w.settings script.catalog node ask p asks_it v after m (rest.Said said) known.1.stands (sane script w.settings w.events run number session ask p makes) t in
+        (let told = told_of w.settings script.catalog node ask p asks_it (sane script w.settings w.events run number session ask p makes) v known.1.stands after m (rest.Said said) t in
         let h = left_unsaid script w.settings w.events run number session ask p makes after m said (ap takes_memory (sym todo_is) ∙ memory) single
         (told (own_law script w.settings w.events run number session k.is_session runs)) in
         stops (marked (state_after (setup_of script w.settings) (entries_told w.events)).commits node.number p m) after h.0 h.1)
