@@ -15,4 +15,4 @@ returns-clause-text c =
     c.in_ok-journal.ensures)
 
 pub render-requires : goal.render-requires
-render-requires c = opening_tables c.args.script.now c.args.settings.now c.requires.bound
+render-requires c = record { tables = opening_tables c.args.script.now c.args.settings.now c.requires.bound }
