@@ -2,7 +2,7 @@ use Rattle.std.proofs.Common.{◌≡◌, [], rules, subst}
 use Rattle.tl_base.specs.declared.place.Settings.{Settings}
 use Rattle.tl_places.specs.Places.{AreAt}
 use Rattle.tl_world.proofs.AtFirst.{opens_so}
-use Rattle.tl_journal.proofs.Named.{opening_tables}
+use Rattle.tl_journal.proofs.Named.{opening_tables, sessions_name}
 use Rattle.tl_world.proofs.world.World.new.Goals as goal
 
 pub returns-clause-stands : goal.returns-clause-stands
@@ -19,5 +19,5 @@ new-requires-clause-tables c = opening_tables c.args.script.now c.args.settings.
 pub new-requires-clause-writes : goal.new-requires-clause-writes
 new-requires-clause-writes c = c.requires.bound.writes
 
-pub open_slots-requires-clause-bound : goal.open_slots-requires-clause-bound
-open_slots-requires-clause-bound c = c.requires.bound.statements
+pub open_slots-requires-clause-named : goal.open_slots-requires-clause-named
+open_slots-requires-clause-named c = sessions_name c.args.script.now c.args.settings.now c.requires.bound
