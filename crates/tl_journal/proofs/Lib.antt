@@ -34,6 +34,7 @@ pub mod ManagerPremises
 pub mod ManagerServes
 pub mod Managers
 pub mod Meets
+pub mod Named
 pub mod NoneLeft
 pub mod Opens
 pub mod Owed

@@ -1,3 +1,8 @@
+ghost use Rattle.std.specs.Prelude.{IfOk};
+ghost use Rattle.tl_schema.specs.declared.catalog.Catalog.{Catalog as TheCatalog};
+ghost use Rattle.tl_plan.specs.Plan.{NamesTables};
+ghost use Rattle.tl_meaning_tests.specs.Pairs.{ArePairs};
+
 use crate::access::{ONE, ONE_TWO, all, pair};
 use crate::fixtures::{rows, test};
 use std::alloc::Global;
@@ -10,15 +15,21 @@ use tl_schema::{Access, Catalog};
 use tl_values::{Comparison, Row, Value};
 
 // Tables whose key is both columns, and the first one.
-fn catalog(alloc: Global) -> Result<Catalog, NoMemory> {
+fn catalog(alloc: Global) -> Result<Catalog, NoMemory>
+    ensures { IfOk result ArePairs }
+{
     let mut tables = Items::new(alloc);
-    tables.push(pair(alloc, &[0, 1])?)?;
-    tables.push(pair(alloc, &[0])?)?;
+    let first = pair(alloc, &[0, 1])?;
+    let second = pair(alloc, &[0])?;
+    tables.push(first)?;
+    tables.push(second)?;
     Ok(Catalog { tables })
 }
 
 // The second column of both tables.
-fn select(alloc: Global, filter: Option<Condition>) -> Result<Bound, NoMemory> {
+fn select(alloc: Global, filter: Option<Condition>) -> Result<Bound, NoMemory>
+    ensures { IfOk result (λ bound. (catalog : TheCatalog) → ArePairs catalog → NamesTables catalog bound) }
+{
     let mut from = Items::new(alloc);
     from.push(Join { table: 0, on: None })?;
     from.push(Join { table: 1, on: None })?;
@@ -37,7 +48,9 @@ fn select(alloc: Global, filter: Option<Condition>) -> Result<Bound, NoMemory> {
 }
 
 // By the key.
-fn update(alloc: Global) -> Result<Bound, NoMemory> {
+fn update(alloc: Global) -> Result<Bound, NoMemory>
+    ensures { IfOk result (λ bound. (catalog : TheCatalog) → ArePairs catalog → NamesTables catalog bound) }
+{
     let both = [(0, Comparison::Equal, 1), (1, Comparison::Equal, 2)];
     Ok(Bound::Change {
         edit: Edit::Update {
@@ -49,7 +62,9 @@ fn update(alloc: Global) -> Result<Bound, NoMemory> {
 }
 
 // Three rows: one has a NULL in its key, and the key bytes of another are 256.
-fn insert(alloc: Global) -> Result<Bound, Fail> {
+fn insert(alloc: Global) -> Result<Bound, Fail>
+    ensures { IfOk result (λ bound. (catalog : TheCatalog) → ArePairs catalog → NamesTables catalog bound) }
+{
     let mut rows = rows(alloc, &["NULL 1", "1 NULL"])?;
     let mut long = Row::new(alloc);
     let letters = String::from_utf8(vec![in alloc; b'x'; 253]?)?;
@@ -68,7 +83,9 @@ fn push_key(keys: &mut Bytes, access: &Access) -> Result<(), NoMemory> {
 }
 
 // Whether the statement reads so many records and ranges, the records of these keys, one behind the other, among them.
-fn reads(alloc: Global, bound: &Bound, count: usize, keys: &[u8]) -> Result<bool, NoMemory> {
+fn reads(alloc: Global, bound: &Bound, count: usize, keys: &[u8]) -> Result<bool, NoMemory>
+    requires { (catalog : TheCatalog) → ArePairs catalog → NamesTables catalog bound.now }
+{
     let plan = make_plan(alloc, bound, &catalog(alloc)?)?;
     let mut found = Bytes::new(alloc);
     for access in &plan.accesses {
@@ -89,7 +106,9 @@ fn a_statement_reads_what_it_names(rt: HostRuntime) -> Result<(), Fail> {
 }
 
 // How many rows the statement has over tables of one row.
-fn printed(alloc: Global, bound: &Bound) -> Result<usize, Fail> {
+fn printed(alloc: Global, bound: &Bound) -> Result<usize, Fail>
+    requires { (catalog : TheCatalog) → ArePairs catalog → NamesTables catalog bound.now }
+{
     let plan = make_plan(alloc, &copy_bound(alloc, bound)?, &catalog(alloc)?)?;
     let tables = [rows(alloc, &["1 2"])?, rows(alloc, &["1 2"])?];
     Ok(finish(alloc, &plan, &tables)?.len())

@@ -1,24 +1,36 @@
+pub mod Alike
+pub mod AlikeNodes
+pub mod AlikeSays
+pub mod AlikeTold
+mod Answered
 mod Arrives
 mod BeginAfter
 mod BeginSteps
 mod Beginning
-mod Courses
-mod Entering
 mod Begins
-mod Answered
+mod Courses
+mod EndMarks
+mod Ending
+mod Entering
 mod Found
-mod IdleAfter
 mod Heard
 mod Heeds
+mod IdleAfter
 mod Idling
+mod LastReplies
 mod Leads
 mod LeadsReads
 mod Leaving
 mod Opening
 mod Opens
+mod Others
 mod OutsideReplies
+pub mod Owes
 mod Owing
+pub mod OwnSuits
+pub mod Presents
 mod ReadAfter
+mod Readied
 mod Readings
 mod ReadsOn
 mod Recovering
@@ -26,14 +38,3 @@ mod RecoveryMarks
 mod Saying
 mod Shown
 mod Stopping
-mod EndMarks
-mod Ending
-mod LastReplies
-mod Readied
-mod Others
-pub mod Alike
-pub mod AlikeNodes
-pub mod AlikeSays
-pub mod AlikeTold
-pub mod Owes
-pub mod OwnSuits

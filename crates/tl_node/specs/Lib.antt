@@ -5,6 +5,7 @@ pub mod Fits
 pub mod Hears
 pub mod Leads
 pub mod Leaves
+pub mod Named
 pub mod New
 pub mod NextRead
 pub mod Owed

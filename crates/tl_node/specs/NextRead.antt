@@ -1,5 +1,5 @@
 -- The read that is next for a statement.
-use Rattle.std.specs.Prelude.{◌≡◌, ℕ, Option, Some, None, slice_get}
+use Rattle.std.specs.Prelude.{◌≡◌, ◌<◌, ℕ, Option, Some, None, length, slice_get}
 use Rattle.tl_schema.specs.declared.access.Access.{Access}
 use Rattle.tl_write.specs.Change.{number_of}
 use Rattle.tl_isolation.specs.declared.bound.Bound.{Bound}
@@ -16,6 +16,12 @@ abbrev pub table_number : Bound → ℕ → Option ℕ
 table_number (bound.Select query) at = slice_get (numbers_of query) at
 table_number (bound.Change edit) at = Some (number_of edit)
 table_number statement at = None
+
+-- an access at this place is of a table
+abbrev pub ReadsAt : Bound → ℕ → Type 0
+ReadsAt (bound.Select query) at = at < length query.from
+ReadsAt (bound.Change edit) at = Unit {0}
+ReadsAt statement at = ⊥
 
 -- the transaction has begun the read in hand
 pub record IsNextRead (statement : Bound) (reading : Reading) (before after : Txn) : Type 0 where

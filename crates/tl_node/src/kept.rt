@@ -1,12 +1,13 @@
 //! What a node keeps over its statements.
 
-ghost use Rattle.std.specs.Prelude.{◌≡◌, ◌<◌, ◌+◌, ◌++◌, ◌∷◌, [], IfOk, OnErr, OnOk, length, slice_get, slice_set, true};
+ghost use Rattle.std.specs.Prelude.{◌≡◌, ◌<◌, ◌+◌, ◌++◌, ◌∷◌, [], IfOk, OnErr, OnOk, Some, length, slice_get, slice_set, true};
 ghost use Rattle.std.specs.Prelude.{vec_capacity, vec_len};
 ghost use Rattle.std.specs.Option.{option_copied};
 ghost use Rattle.tl_manager.specs.declared.request.ManagerRequest.TheVariants as request;
 ghost use Rattle.tl_ask.specs.Asked.{asked};
 ghost use Rattle.tl_journal.specs.Ask.{AskManager};
 ghost use Rattle.tl_journal.specs.Bytes.{home_of};
+ghost use Rattle.tl_node.specs.Named.{AreNamed, AreNamed-prop};
 
 use std::alloc::Global;
 use tl_answer::copy_answer;
@@ -30,6 +31,7 @@ pub struct Core {
     pub floors: Floors,
     /// How often another manager was asked for its low-water mark.
     pub asked_others: u64,
+    pub ghost named: { AreNamed catalog statements } by { AreNamed-prop catalog statements },
 }
 
 impl Core {
@@ -38,6 +40,14 @@ impl Core {
         ensures { option_copied result ≡ slice_get self.now.statements (length self.now.answers.items) }
     {
         self.statements.get(self.answers.len())
+    }
+
+    /// The same, where there is one.
+    pub fn current(&self) -> &Bound
+        requires { length self.now.answers.items < length self.now.statements }
+        ensures { slice_get self.now.statements (length self.now.answers.items) ≡ Some result.now }
+    {
+        &self.statements.as_slice()[self.answers.len()]
     }
 
     /// Its manager.

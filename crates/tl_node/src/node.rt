@@ -9,6 +9,7 @@ ghost use Rattle.tl_node.specs.After.{IsAfter, IsTold, IsToldSo, Stays, may_be_g
 ghost use Rattle.tl_node.specs.Fits.{IsFit};
 ghost use Rattle.tl_ask.specs.Hears.{hears_manager};
 ghost use Rattle.tl_node.specs.Hears.{claim_heard};
+ghost use Rattle.tl_node.specs.Named.{AreNamed};
 ghost use Rattle.tl_node.specs.New.{IsNew};
 ghost use Rattle.tl_node.specs.Owed.{owed_at, owed_next, owed_of_claim};
 ghost use Rattle.tl_node.specs.declared.work.Work.TheVariants as stopped_work;
@@ -56,12 +57,13 @@ impl Model for Node {
 }
 
 impl Node {
-    /// A node at the first request of its session.
+    /// A node at the first request of its session, whose statements name tables of the catalog alone.
     pub fn new(alloc: Global, session: &Session, setup: &Setup) -> Result<Node, NoMemory>
         requires least_shards { 1 ≤ setup.now.settings.shards }
         requires greatest_shards { setup.now.settings.shards ≤ 16 }
         requires least_managers { 1 ≤ setup.now.settings.managers }
         requires greatest_managers { setup.now.settings.managers ≤ 4 }
+        requires named { AreNamed setup.now.catalog session.now.statements }
         ensures opens { IfOk result (λ node. StandsFor setup.now.settings setup.now.catalog (opening_node setup.now.settings session.now) node) }
         ensures session { IfOk result (λ node. node.session ≡ session.now.statements) }
     {
@@ -133,6 +135,7 @@ fn opening_core(alloc: Global, session: &Session, setup: &Setup) -> Result<Core,
     requires greatest_shards { setup.now.settings.shards ≤ 16 }
     requires least_managers { 1 ≤ setup.now.settings.managers }
     requires greatest_managers { setup.now.settings.managers ≤ 4 }
+    requires named { AreNamed setup.now.catalog session.now.statements }
     ensures { IfOk result (λ core. IsNew core setup.now.settings setup.now.catalog session.now) }
 {
     let layout = Layout::new(&setup.settings);

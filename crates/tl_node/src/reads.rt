@@ -1,10 +1,12 @@
 //! A node reads for a statement, and says it.
 
-ghost use Rattle.std.specs.Prelude.{◌≡◌, [], ◌∷◌, IfOk, OnErr, OnOk, Some, length, slice_get};
+ghost use Rattle.std.specs.Prelude.{◌≡◌, ◌<◌, [], ◌∷◌, IfOk, OnErr, OnOk, Some, length, slice_get};
 ghost use Rattle.tl_ask.specs.Hears.{hears_manager};
 ghost use Rattle.tl_answer.specs.Own.{OwnSuits};
 ghost use Rattle.tl_isolation.specs.declared.bound.Bound.{Bound};
 ghost use Rattle.tl_isolation.specs.declared.bound.Bound.TheVariants as bound;
+ghost use Rattle.tl_isolation.specs.Tables.{HasTable};
+ghost use Rattle.tl_plan.specs.Plan.{NamesTables};
 ghost use Rattle.tl_manager.specs.declared.mark.Mark.TheVariants as marks;
 ghost use Rattle.tl_manager.specs.declared.request.Reply.{Reply};
 ghost use Rattle.tl_journal.specs.Ask.{Heard};
@@ -21,7 +23,8 @@ ghost use Rattle.tl_txn.specs.declared.phase.Phase.TheVariants as phases;
 ghost use Rattle.tl_write.specs.Change.{number_of};
 ghost use Rattle.tl_node.specs.After.{ComesTo, IsAfter, Stays};
 ghost use Rattle.tl_node.specs.Fits.{FitsReading, HasPresent, IsFit, IsOwn, TakesStatements};
-ghost use Rattle.tl_node.specs.NextRead.{IsNextRead, table_number};
+ghost use Rattle.tl_node.specs.NextRead.{IsNextRead, ReadsAt, table_number};
+ghost use Rattle.tl_node.specs.Present.{IsNoEnd, IsSaid};
 ghost use Rattle.tl_node.specs.ReadOn.{Idles, IdlesBy, IsReadSo, ReadsFurther, SaysFound, is_nested};
 ghost use Rattle.tl_node.specs.Saying.{IsAnswered, SaidFirst, SaidSo, all_rows};
 ghost use Rattle.tl_node.specs.View.{node_at, node_so, stage_of};
@@ -43,30 +46,29 @@ use tl_values::Rows;
 
 /// The next of the reads is begun.
 pub fn read_next(statement: &Bound, txn: &mut Txn, reading: &Reading) -> Result<(), NoMemory>
-    requires { IsReady txn.old.phase }
+    requires ready { IsReady txn.old.phase }
+    requires reads { ReadsAt statement.now reading.now.at }
+    requires within { reading.now.at < length reading.now.accesses }
     ensures ok { OnOk result (IsNextRead statement.now reading.now txn.old txn.new) }
     ensures err { OnErr result (txn.new ≡ txn.old) }
 {
-    let Some(table) = table_at(statement, reading.at) else {
-        return Err(NoMemory);
-    };
-    let Some(access) = reading.accesses.get(reading.at) else {
-        return Err(NoMemory);
-    };
+    let table = table_at(statement, reading.at);
+    let access = &reading.accesses.as_slice()[reading.at];
     txn.read(table, access)
 }
 
 /// The number of the table that the access at this place is of.
-fn table_at(statement: &Bound, at: usize) -> Option<u8>
-    ensures { result ≡ table_number statement.now at }
+fn table_at(statement: &Bound, at: usize) -> u8
+    requires { ReadsAt statement.now at }
+    ensures { table_number statement.now at ≡ Some result }
 {
     match statement {
-        Bound::Select { query } => match query.from.get(at) {
-            Some(join) => Some(join.table),
-            None => None,
-        },
-        Bound::Change { edit } => Some(table_of_edit(edit)),
-        _ => None,
+        Bound::Select { query } => query.from.as_slice()[at].table,
+        Bound::Change { edit } => table_of_edit(edit),
+        Bound::Begin => unreachable!(),
+        Bound::Commit => unreachable!(),
+        Bound::Rollback => unreachable!(),
+        Bound::Recover { node: _ } => unreachable!(),
     }
 }
 
@@ -145,12 +147,11 @@ fn read_on(core: &mut Core, mut txn: Txn, stage: Stage, reading: Reading) -> Res
 }
 
 fn read_further(core: &Core, mut txn: Txn, stage: Stage, reading: Reading) -> Result<Next, NoMemory>
-    requires { IsReady txn.phase }
+    requires ready { IsReady txn.phase }
+    requires present { HasPresent core.now (λ statement. FitsReading core.now statement reading) }
     ensures { ReadsFurther core.now txn stage reading result }
 {
-    let Some(statement) = core.present() else {
-        return Err(NoMemory);
-    };
+    let statement = core.current();
     read_next(statement, &mut txn, &reading)?;
     Ok(Next::Goes(running(txn, stage, Course::Reads(reading))))
 }
@@ -177,6 +178,7 @@ fn learn_and_idle(
 ) -> Result<Next, NoMemory>
     requires ready { IsReady txn.phase }
     requires own { IsOwn core.old txn }
+    requires present { HasPresent core.old IsNoEnd }
     ensures after { IdlesBy core.old floor.now txn stage core.new result }
     ensures stays { Stays core.old core.new }
 {
@@ -188,13 +190,12 @@ fn learn_and_idle(
 fn say_idle(core: &mut Core, txn: Txn, stage: Stage) -> Result<Next, NoMemory>
     requires ready { IsReady txn.phase }
     requires own { IsOwn core.old txn }
+    requires present { HasPresent core.old IsNoEnd }
     ensures after { Idles core.old txn stage core.new result }
     ensures kept { OnErr result (core.new.answers.items ≡ core.old.answers.items) }
     ensures rest { core.new ≡ record core.old { answers = core.new.answers } }
 {
-    let Some(statement) = core.present() else {
-        return Err(NoMemory);
-    };
+    let statement = core.current();
     if is_nested(statement) {
         return answer_on(core, Answer::Nested, txn, stage);
     }
@@ -213,6 +214,7 @@ fn is_nested(statement: &Bound) -> bool
 fn say(core: &mut Core, mut txn: Txn, stage: Stage, found: Items<Rows>) -> Result<Next, NoMemory>
     requires ready { IsReady txn.phase }
     requires own { IsOwn core.old txn }
+    requires present { HasPresent core.old IsSaid }
     ensures after { SaysFound core.old txn stage found core.new result }
     ensures kept { OnErr result (core.new.answers.items ≡ core.old.answers.items) }
     ensures rest { core.new ≡ record core.old { answers = core.new.answers } }
@@ -249,24 +251,45 @@ fn say_first(core: &Core, txn: Txn, answer: Answer) -> Result<Next, NoMemory>
 /// What the present statement is answered by what was found; a change leaves its writes in the transaction.
 fn answer_present(core: &Core, txn: &mut Txn, found: Items<Rows>) -> Result<Answer, NoMemory>
     requires ready { IsReady txn.old.phase }
+    requires present { HasPresent core.now IsSaid }
     ensures told { (statement : Bound) → slice_get core.now.statements (length core.now.answers.items) ≡ Some statement → IfOk result (λ told. IsAnswered core.now.catalog statement found txn.old txn.new told) }
     ensures rest { txn.new ≡ record txn.old { phase = with_own txn.old.phase (own_in txn.new.phase) } }
 {
-    match core.present() {
-        Some(Bound::Select { query }) => {
+    let statement = core.current();
+    answer_statement(core, statement, txn, found)
+}
+
+fn answer_statement(
+    core: &Core,
+    statement: &Bound,
+    txn: &mut Txn,
+    found: Items<Rows>,
+) -> Result<Answer, NoMemory>
+    requires ready { IsReady txn.old.phase }
+    requires said { IsSaid statement.now }
+    requires named { NamesTables core.now.catalog statement.now }
+    ensures told { IfOk result (λ told. IsAnswered core.now.catalog statement.now found txn.old txn.new told) }
+    ensures rest { txn.new ≡ record txn.old { phase = with_own txn.old.phase (own_in txn.new.phase) } }
+{
+    match statement {
+        Bound::Select { query } => {
             answer_query(core.alloc, &core.catalog, query, found, txn.own())
         }
-        Some(Bound::Change { edit }) => {
+        Bound::Change { edit } => {
             let rows = all_rows(core, found)?;
             answer_edit(core, edit, rows, txn)
         }
-        _ => Err(NoMemory),
+        Bound::Begin => unreachable!(),
+        Bound::Commit => unreachable!(),
+        Bound::Rollback => unreachable!(),
+        Bound::Recover { node: _ } => unreachable!(),
     }
 }
 
 /// What a change is answered; its writes are kept in the transaction.
 fn answer_edit(core: &Core, edit: &Edit, rows: Rows, txn: &mut Txn) -> Result<Answer, NoMemory>
     requires ready { IsReady txn.old.phase }
+    requires table { HasTable core.now.catalog (number_of edit.now) }
     ensures told { OwnSuits core.now.catalog edit.now (own_in txn.old.phase) → IfOk result (λ told. Means core.now.catalog (bound.Change edit.now) (own_in txn.old.phase) (rows ∷ []) told) }
     ensures own { OwnSuits core.now.catalog edit.now (own_in txn.old.phase) → OnOk result (own_in txn.new.phase ≡ own_said core.now.catalog (bound.Change edit.now) (own_in txn.old.phase) (rows ∷ [])) }
     ensures rest { txn.new ≡ record txn.old { phase = with_own txn.old.phase (own_in txn.new.phase) } }

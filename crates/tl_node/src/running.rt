@@ -1,10 +1,10 @@
 //! A node in a transaction: it begins, and its statements are opened.
 
-ghost use Rattle.std.specs.Prelude.{◌≡◌, true, false, nat_le, IfOk, Some, length, slice_get};
+ghost use Rattle.std.specs.Prelude.{◌≡◌, ◌<◌, true, false, nat_le, IfOk, Some, length, slice_get};
 ghost use Rattle.std.specs.Option.{option_copied};
 ghost use Rattle.tl_descriptor.specs.Tids.{TidSet};
 ghost use Rattle.tl_isolation.specs.declared.bound.Bound.{Bound};
-ghost use Rattle.tl_plan.specs.Plan.{accesses_in};
+ghost use Rattle.tl_plan.specs.Plan.{NamesTables, accesses_in};
 ghost use Rattle.tl_journal.specs.Asks.{ToIdle, ToCommit, ToGiveUp, course_in, other_manager, reading_course};
 ghost use Rattle.tl_journal.specs.Node as law;
 ghost use Rattle.tl_journal.specs.Reads.{all_reads, begin_reads};
@@ -168,6 +168,7 @@ pub fn go_on(core: &Core, at: usize, txn: Txn, stage: Stage) -> Result<Work, NoM
 }
 
 fn open(core: &Core, statement: &Bound, txn: Txn, stage: Stage) -> Result<Work, NoMemory>
+    requires named { NamesTables core.now.catalog statement.now }
     requires ready { IsReady txn.phase }
     requires own { IsOwn core.now txn }
     ensures { IfOk result (λ w. Leads core.now statement.now txn.phase stage w) }
@@ -205,6 +206,7 @@ fn end_with(core: &Core, txn: Txn, answer: Answer) -> Result<Work, NoMemory>
 
 /// A statement that is no end of the transaction goes on by its reads; BEGIN and RECOVER have none.
 fn open_statement(core: &Core, statement: &Bound, txn: Txn, stage: Stage) -> Result<Work, NoMemory>
+    requires named { NamesTables core.now.catalog statement.now }
     requires ready { IsReady txn.phase }
     requires own { IsOwn core.now txn }
     requires takes { TakesStatements (stage_of stage) }
@@ -237,6 +239,7 @@ fn idle(core: &Core, txn: Txn, stage: Stage) -> Result<Work, NoMemory>
 }
 
 fn open_reads(core: &Core, statement: &Bound, txn: Txn, stage: Stage) -> Result<Work, NoMemory>
+    requires named { NamesTables core.now.catalog statement.now }
     requires ready { IsReady txn.phase }
     requires own { IsOwn core.now txn }
     requires takes { TakesStatements (stage_of stage) }
@@ -253,6 +256,7 @@ fn open_reads(core: &Core, statement: &Bound, txn: Txn, stage: Stage) -> Result<
 
 /// The accesses of its reads.
 fn accesses_of(core: &Core, statement: &Bound) -> Result<Accesses, NoMemory>
+    requires { NamesTables core.now.catalog statement.now }
     ensures { IfOk result (λ accesses. accesses ≡ accesses_in core.now.catalog statement.now) }
 {
     let plan = make_plan(core.alloc, statement, &core.catalog)?;
@@ -271,6 +275,7 @@ fn read_first(
     requires takes { TakesStatements (stage_of stage) }
     requires to { course_in core.now.catalog (stage_of stage) statement.now ≡ reading_course (begin_reads (all_reads core.now.catalog statement.now)) }
     requires accesses { accesses ≡ accesses_in core.now.catalog statement.now }
+    requires some { 0 < length accesses }
     ensures { IfOk result (λ w. Leads core.now statement.now txn.phase stage w) }
 {
     let found = Items::new(core.alloc);

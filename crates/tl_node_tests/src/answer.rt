@@ -1,3 +1,9 @@
+ghost use Rattle.std.specs.Prelude.{◌≡◌, IfOk, length};
+ghost use Rattle.std.specs.List.{AllByRecursion};
+ghost use Rattle.tl_schema.specs.declared.catalog.Catalog.{Catalog};
+ghost use Rattle.tl_write.specs.Change.{number_of};
+ghost use Rattle.tl_isolation.specs.Tables.{HasTable};
+
 use std::alloc::Global;
 use std::test::Fail;
 use tl_algebra::{
@@ -56,7 +62,9 @@ fn column(alloc: Global, name: &str, kind: Kind, not_null: bool) -> Result<Colum
 }
 
 // CREATE TABLE account (id INT PRIMARY KEY, balance INT NOT NULL, note TEXT), which has number 0.
-fn catalog(alloc: Global) -> Result<Catalog, NoMemory> {
+fn catalog(alloc: Global) -> Result<Catalog, NoMemory>
+    ensures { IfOk result (λ catalog. length catalog.tables ≡ 1) }
+{
     let mut columns = Items::new(alloc);
     columns.push(column(alloc, "id", Kind::Int, true)?)?;
     columns.push(column(alloc, "balance", Kind::Int, true)?)?;
@@ -105,7 +113,9 @@ enum Case {
     Delete(i64),
 }
 
-fn query(alloc: Global, number: i64) -> Result<Query, NoMemory> {
+fn query(alloc: Global, number: i64) -> Result<Query, NoMemory>
+    ensures { IfOk result (λ query. (catalog : Catalog) → length catalog.tables ≡ 1 → AllByRecursion (λ join. HasTable catalog join.table) query.from) }
+{
     let mut from = Items::new(alloc);
     from.push(Join { table: 0, on: None })?;
     let mut outputs = Items::new(alloc);
@@ -121,7 +131,9 @@ fn query(alloc: Global, number: i64) -> Result<Query, NoMemory> {
     })
 }
 
-fn update(alloc: Global, number: i64, id: Option<i64>) -> Result<Edit, NoMemory> {
+fn update(alloc: Global, number: i64, id: Option<i64>) -> Result<Edit, NoMemory>
+    ensures { IfOk result (λ edit. number_of edit ≡ 0) }
+{
     let mut sets = Items::new(alloc);
     sets.push(SetColumn {
         column: 1,
@@ -138,24 +150,28 @@ fn update(alloc: Global, number: i64, id: Option<i64>) -> Result<Edit, NoMemory>
 fn answer(alloc: Global, case: Case, texts: &[&str], own: &mut Buffer) -> Result<Answer, NoMemory> {
     let catalog = catalog(alloc)?;
     let read = rows(alloc, texts)?;
-    let edit = match case {
+    match case {
         Case::Select(number) => {
             let query = query(alloc, number)?;
             let mut tables = Items::new(alloc);
             tables.push(read)?;
-            return answer_query(alloc, &catalog, &query, tables, own);
+            answer_query(alloc, &catalog, &query, tables, own)
         }
-        Case::Insert(texts) => Edit::Insert {
-            table: 0,
-            rows: rows(alloc, texts)?,
-        },
-        Case::Update(number, id) => update(alloc, number, id)?,
-        Case::Delete(number) => Edit::Delete {
-            table: 0,
-            filter: Some(is_id(number)),
-        },
-    };
-    answer_change(alloc, &catalog, &edit, read, own)
+        Case::Insert(texts) => {
+            let rows = rows(alloc, texts)?;
+            let edit = Edit::Insert { table: 0, rows };
+            answer_change(alloc, &catalog, &edit, read, own)
+        }
+        Case::Update(number, id) => {
+            let edit = update(alloc, number, id)?;
+            answer_change(alloc, &catalog, &edit, read, own)
+        }
+        Case::Delete(number) => {
+            let filter = Some(is_id(number));
+            let edit = Edit::Delete { table: 0, filter };
+            answer_change(alloc, &catalog, &edit, read, own)
+        }
+    }
 }
 
 // A buffer of this many deletions in another table.

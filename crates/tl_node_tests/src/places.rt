@@ -5,14 +5,11 @@ use std::process::Abort;
 use std::test::Fail;
 use tl_ask::Layout;
 use tl_base::{
-    Bytes, Duplicate, Items, NodeId, NodeSet, PlaceId, Settings, Stamp, StoreReply, StoreRequest,
-    Text,
+    Bytes, Duplicate, NodeId, NodeSet, PlaceId, Settings, Stamp, StoreReply, StoreRequest,
 };
-use tl_isolation::Script;
 use tl_manager::{ManagerReply, ManagerRequest, Reply, Request};
 use tl_places::{Places, places_serve_their_logs};
-use tl_schema::{Catalog, Column, OpeningRow, Table};
-use tl_values::{Kind, Row, Value};
+use tl_script::read_script;
 
 // The commits cell: the set of tid 0 alone.
 const COMMITS: [u8; 12] = [0; 12];
@@ -54,55 +51,13 @@ fn layout() -> Layout
     Layout::new(&settings)
 }
 
-fn column(alloc: Global, name: &str) -> Result<Column, Fail> {
-    Ok(Column {
-        name: Text::from_str(alloc, name)?,
-        kind: Kind::Int,
-        not_null: true,
-    })
-}
-
-// The table with the columns x and y, and the key x.
-fn point_table(alloc: Global) -> Result<Table, Fail> {
-    let mut columns = Items::new(alloc);
-    columns.push(column(alloc, "x")?)?;
-    columns.push(column(alloc, "y")?)?;
-    Ok(Table {
-        name: Text::from_str(alloc, "point")?,
-        columns,
-        key: Items::from_slice(alloc, &[0])?,
-        indexes: Items::new(alloc),
-    })
-}
-
-fn opening_row(alloc: Global, x: i64, y: i64) -> Result<OpeningRow, Fail> {
-    let mut row = Row::new(alloc);
-    row.push(Value::Int(x))?;
-    row.push(Value::Int(y))?;
-    Ok(OpeningRow { table: 0, row })
-}
-
 // Three rows, not in the order of their keys.
-fn script(alloc: Global) -> Result<Script, Fail> {
-    let mut tables = Items::new(alloc);
-    tables.push(point_table(alloc)?)?;
-    let mut rows = Items::new(alloc);
-    for (x, y) in [(5, 50), (1, 10), (2, 20)] {
-        rows.push(opening_row(alloc, x, y)?)?;
-    }
-    Ok(Script {
-        catalog: Catalog { tables },
-        rows,
-        sessions: Items::new(alloc),
-        turns: Items::new(alloc),
-        vanishes: Items::new(alloc),
-    })
-}
+const SCRIPT: &str = "CREATE TABLE point (x INT PRIMARY KEY, y INT)\nINSERT INTO point VALUES (5, 50)\nINSERT INTO point VALUES (1, 10)\nINSERT INTO point VALUES (2, 20)\n@node 1\nBEGIN\n";
 
 fn places(alloc: Global) -> Result<Places, Fail>
     ensures { IfOk result (λ places. length places.managers ≡ 1) }
 {
-    let script = script(alloc)?;
+    let script = read_script(alloc, SCRIPT.as_bytes())?;
     let places = Places::new(alloc, layout(), &script)?;
     Ok(places)
 }

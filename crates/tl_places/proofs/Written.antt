@@ -1,9 +1,10 @@
 -- The opening rows by their keys are the opening writes.
-use Rattle.std.proofs.Common.{◌≡◌, ℕ, List, [], ◌∷◌, ◌++◌, Some, Less, Equal, Greater, map, length, refl, sym, ap, ◌∙◌, append_assoc, arith}
+use Rattle.std.proofs.Common.{◌≡◌, ℕ, List, [], ◌∷◌, ◌++◌, Some, Less, Equal, Greater, map, length, refl, sym, ap, subst, ◌∙◌, append_assoc, arith}
 use Rattle.std.specs.Cmp.Lexicographic.{nat_list_cmp_total}
 use Rattle.std.specs.FinMap as finmap
 use Rattle.std.specs.FinMap.{nat_cmp-IsAntisymmetric, slice_cmp-IsAntisymmetric}
 use Rattle.std.specs.FinMap.Entries.{by_order, put}
+use Rattle.std.specs.List.{AllByRecursion}
 use Rattle.std.specs.Ordering.{match_ordering}
 use Rattle.tl_values.specs.declared.value.Value.{Value}
 use Rattle.tl_schema.specs.declared.catalog.Catalog.{Catalog}
@@ -14,6 +15,8 @@ use Rattle.tl_write.specs.Own.{key_cmp, put_write}
 use Rattle.tl_write.specs.Tables.{Tables}
 use Rattle.tl_isolation.specs.Tables.{opening_writes, table_of}
 use Rattle.tl_versions.specs.Cell as cells
+use Rattle.tl_versions.specs.Cell.{IsShortRow}
+use Rattle.tl_journal.specs.Binding.{WriteFits}
 use Rattle.tl_places.specs.Opening.{Stored, row_cell, row_writes, with_row, with_rows}
 
 abbrev Entry : Type 0
@@ -78,3 +81,18 @@ cell_more stored cell left rest e all is same h =
     ∙ ap (λ (c : Stored). stored ++ c ∷ map row_cell rest) same
     ∙ ap (λ (es : List Entry). stored ++ map row_cell es) (sym is)
     ∙ h
+
+-- ---- what is known of the rows of a bound script
+
+pub all_of_front : {X : Type 0} (P : X → Type 0) (xs : List X) (x : X) → AllByRecursion P (xs ++ x ∷ []) → AllByRecursion P xs × P x
+all_of_front P [] x h = (tt, h.0)
+all_of_front P (y ∷ ys) x h = let rest = all_of_front P ys x h.1 in ((h.0, rest.0), rest.1)
+
+short_rows : (es : List Entry) → AllByRecursion WriteFits (map row_write es) → AllByRecursion (λ (e : Entry). IsShortRow e.1) es
+short_rows [] h = tt
+short_rows (e ∷ es) h = (record { count = h.0.row.fits.count; short = h.0.row.short }, short_rows es h.1)
+
+-- each opening row has room in a cell
+pub are_short : (catalog : Catalog) (os : List OpeningRow) (rows : Tables) → row_writes rows ≡ opening_writes catalog os → AllByRecursion WriteFits (opening_writes catalog os)
+    → AllByRecursion (λ (e : Entry). IsShortRow e.1) (finmap.entries rows)
+are_short catalog os rows e h = short_rows (finmap.entries rows) (subst (λ (ws : List Write). AllByRecursion WriteFits ws) (sym e) h)

@@ -5,7 +5,6 @@
 mod law;
 mod opening;
 mod places;
-mod room;
 mod rows;
 
 pub use law::places_serve_their_logs;

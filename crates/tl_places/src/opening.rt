@@ -2,7 +2,11 @@
 
 ghost use Rattle.std.specs.Prelude.{◌≡◌, ◌∷◌, ◌++◌, List, [], length, map, IfOk, OnOk};
 ghost use Rattle.std.specs.FinMap as finmap;
+ghost use Rattle.std.specs.List.{AllByRecursion};
+ghost use Rattle.tl_versions.specs.Cell.{IsShortRow};
 ghost use Rattle.tl_isolation.specs.Script.{setup_of};
+ghost use Rattle.tl_isolation.specs.Tables.{HasTable, opening_writes};
+ghost use Rattle.tl_journal.specs.Binding.{WriteFits};
 ghost use Rattle.tl_journal.specs.Journal.{opening_cells, stores_from};
 ghost use Rattle.tl_places.specs.Opening.{HaveStored, Stored, commits_cell, row_cell};
 ghost use Rattle.tl_places.specs.Places.{ShardHasServed};
@@ -19,6 +23,8 @@ use tl_values::Row;
 
 /// The shards with the commits cell, and then with the opening rows in the order of their keys.
 pub fn open_shards(alloc: Global, layout: Layout, script: &Script) -> Result<Vec<Shard>, NoMemory>
+    requires tables { AllByRecursion (λ o. HasTable script.now.catalog o.table) script.now.rows }
+    requires writes { AllByRecursion WriteFits (opening_writes script.now.catalog script.now.rows) }
     ensures { IfOk result (λ shards. HaveStored layout.shards (opening_cells (setup_of script.now layout)) shards.items) }
 {
     let mut shards = empty_shards(alloc, layout)?;
@@ -56,7 +62,8 @@ fn store_rows(
     shards: &mut Vec<Shard>,
     rows: &SortedMap<Row>,
 ) -> Result<(), NoMemory>
-    requires { HaveStored layout.shards (commits_cell ∷ []) shards.old.items }
+    requires stored { HaveStored layout.shards (commits_cell ∷ []) shards.old.items }
+    requires short { AllByRecursion (λ e. IsShortRow e.1) (finmap.entries rows.now) }
     ensures { OnOk result (HaveStored layout.shards (commits_cell ∷ map row_cell (finmap.entries rows.now)) shards.new.items) }
 {
     for (key, row) in rows.iter() {

@@ -1,6 +1,9 @@
 //! The shards and the managers.
 
 ghost use Rattle.std.specs.Prelude.{◌≡◌, ◌<◌, ◌↔◌, [], true, length, IfOk, IsTrue, OnErr};
+ghost use Rattle.std.specs.List.{AllByRecursion};
+ghost use Rattle.tl_isolation.specs.Tables.{HasTable, opening_writes};
+ghost use Rattle.tl_journal.specs.Binding.{WriteFits};
 ghost use Rattle.tl_manager.specs.declared.request.ManagerReply.TheVariants as told;
 ghost use Rattle.tl_manager.specs.declared.request.Reply.TheVariants as answered;
 ghost use Rattle.tl_manager.specs.declared.request.Request.TheVariants as asked;
@@ -39,9 +42,10 @@ impl Model for Places {
 
 impl Places {
     /// As a run opens: the shards with the commits cell and the rows of the script, and managers that know of nothing.
-    /// A script is want of memory where it has more rows than stamps, where a row names a table that isn't in the
-    /// catalog, and where a row or its key has no room in a cell.
+    /// The rows are of tables of the catalog, and have room in their cells.
     pub fn new(alloc: Global, layout: Layout, script: &Script) -> Result<Places, NoMemory>
+        requires tables { AllByRecursion (λ o. HasTable script.now.catalog o.table) script.now.rows }
+        requires writes { AllByRecursion WriteFits (opening_writes script.now.catalog script.now.rows) }
         ensures { IfOk result (λ places. AreAt script.now layout [] places) }
     {
         let shards = open_shards(alloc, layout, script)?;

@@ -1,5 +1,5 @@
 -- The plan of a statement: which records it reads, in order, and what its SELECT tells of them.
-use Rattle.std.specs.Prelude.{◌≡◌, ◌≤◌, ℕ, Bool, not, ◌&&◌, nat_lt, List, [], ◌∷◌, map, filter, length, Result, Ok}
+use Rattle.std.specs.Prelude.{◌≡◌, ◌<◌, ◌^◌, ℕ, Bool, not, ◌&&◌, nat_lt, List, [], ◌∷◌, map, filter, length, Result, Ok}
 use Rattle.std.specs.List.{AllByRecursion, list_any}
 use Rattle.tl_values.specs.declared.value.Value.{Value}
 use Rattle.tl_values.specs.Key.{key_bytes}
@@ -60,10 +60,10 @@ accesses_in catalog (bound.Select query) = query_accesses catalog query
 accesses_in catalog (bound.Change edit) = edit_accesses catalog edit
 accesses_in catalog statement = []
 
--- the tables of FROM are tables of the catalog, and a place counts their columns
+-- the tables of FROM are tables of the catalog, of so many columns together that code can count them
 pub record NamesFrom (catalog : Catalog) (query : Query) : Type 0 where
   pub tables : AllByRecursion (λ (join : Join). HasTable catalog join.table) query.from
-  pub places : width (tables_of catalog query) ≤ 256
+  pub places : width (tables_of catalog query) < 2 ^ 64
 
 -- a statement names tables of the catalog alone, as each does that was bound to it
 abbrev pub NamesTables : Catalog → Bound → Type 0

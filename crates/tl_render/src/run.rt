@@ -1,6 +1,8 @@
 //! The printed text of a run.
 
 ghost use Rattle.std.specs.Prelude.{◌≡◌, IfOk};
+ghost use Rattle.std.specs.List.{AllByRecursion};
+ghost use Rattle.tl_isolation.specs.Tables.{HasTable};
 ghost use Rattle.tl_base.specs.declared.place.Settings.{Settings};
 ghost use Rattle.tl_journal.specs.Journal.{entries_told};
 ghost use Rattle.tl_journal.specs.Law.{IsRun};
@@ -15,8 +17,9 @@ use tl_isolation::Script;
 use tl_journal::Journal;
 
 /// The printed text: each session with its answers, and each table after all commits. The rows are those that the
-/// store shows at the end of the run.
+/// store shows at the end of the run. The opening rows are of tables of the catalog.
 pub fn render(alloc: Global, script: &Script, journal: &Journal) -> Result<Bytes, NoMemory>
+    requires tables { AllByRecursion (λ o. HasTable script.now.catalog o.table) script.now.rows }
     ensures { IfOk result (λ text. (settings : Settings) → IsRun script.now settings journal.now.events
         → text ≡ printed script.now settings (entries_told journal.now.events)) }
 {

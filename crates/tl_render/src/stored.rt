@@ -3,12 +3,14 @@
 ghost use Rattle.std.specs.Prelude.{◌≡◌, List, ℕ, Some, map, IfOk, OnOk};
 ghost use Rattle.std.specs.Option.{option_copied, option_map};
 ghost use Rattle.std.specs.FinMap as finmap;
+ghost use Rattle.std.specs.List.{AllByRecursion};
 ghost use Rattle.tl_base.specs.declared.place.Settings.{Settings};
 ghost use Rattle.tl_descriptor.specs.Reading.{read_set};
 ghost use Rattle.tl_versions.specs.Reading.{read_cell};
 ghost use Rattle.tl_isolation.specs.History.{state_after};
 ghost use Rattle.tl_isolation.specs.Script.{setup_of};
 ghost use Rattle.tl_isolation.specs.State.{tables_after};
+ghost use Rattle.tl_isolation.specs.Tables.{HasTable};
 ghost use Rattle.tl_protocol.specs.Store.{last_of, row_shown};
 ghost use Rattle.tl_journal.specs.Bytes.{commits_key};
 ghost use Rattle.tl_journal.specs.Journal.{entries_told};
@@ -35,6 +37,7 @@ pub fn final_rows(
     script: &Script,
     events: &[Event],
 ) -> Result<SortedMap<Row>, NoMemory>
+    requires tables { AllByRecursion (λ o. HasTable script.now.catalog o.table) script.now.rows }
     ensures { IfOk result (λ rows. (settings : Settings) → IsRun script.now settings events.now
         → rows ≡ tables_after (state_after (setup_of script.now settings) (entries_told events.now)).commits) }
 {

@@ -1,4 +1,4 @@
-ghost use Rattle.std.specs.Prelude.{◌≡◌, ◌<◌, ◌^◌, IfOk, IsTrue, OnOk, length, slice_get, map, All};
+ghost use Rattle.std.specs.Prelude.{◌≡◌, ◌<◌, ◌^◌, IfOk, IsTrue, OnOk, Some, length, slice_get, map, All};
 ghost use Rattle.std.specs.Option.{option_copied};
 ghost use Rattle.tl_logrec.specs.Entry.{AreWrites, spelling};
 ghost use Rattle.tl_logrec.specs.Keys.{IsKey};
@@ -103,6 +103,15 @@ impl Attempt {
         ensures rising { IsTrue (is_rising self.now.own) }
     {
         self.own.writes().get(at)
+    }
+
+    /// The same, where there is one at this place.
+    pub fn own_within(&self, at: usize) -> &Write
+        requires { at < length self.now.own }
+        ensures value { slice_get self.now.own at ≡ Some result.now }
+        ensures rising { IsTrue (is_rising self.now.own) }
+    {
+        &self.own.writes()[at]
     }
 
     /// The value of the log cell that says that it is committed. It is given once.

@@ -197,13 +197,11 @@ fn ask_own(
     at: usize,
     cell: RecordCell,
 ) -> Result<Asked, NoMemory>
-    requires { is_written attempt.now.tid cell.versions ≡ false }
+    requires place { at < length attempt.now.own }
+    requires new { is_written attempt.now.tid cell.versions ≡ false }
     ensures { (own : TheWrite) → slice_get attempt.now.own at ≡ Some own → IfOk result (λ ask. ask ≡ asked layout (StoreRecord own.key cell.stamp (next_versions attempt.now own.key cell.versions))) }
 {
-    match attempt.own_at(at) {
-        Some(own) => ask_write(layout, attempt, own, cell),
-        None => Err(NoMemory),
-    }
+    ask_write(layout, attempt, attempt.own_within(at), cell)
 }
 
 fn ask_write(

@@ -1,6 +1,6 @@
 //! A transaction that met a version outside its snapshot removes its own versions.
 
-ghost use Rattle.std.specs.Prelude.{◌≡◌, ◌<◌, IfOk, None, Some, false, length, slice_get, true};
+ghost use Rattle.std.specs.Prelude.{◌≡◌, ◌<◌, IfOk, IsSome, None, Some, false, length, slice_get, true};
 ghost use Rattle.std.specs.Option.{option_copied};
 ghost use Rattle.tl_ask.specs.Asked.{asked};
 ghost use Rattle.tl_ask.specs.Hears.{record_or_strange, store_or_strange};
@@ -149,6 +149,7 @@ fn take_removed(
 
 /// Its version is to be removed from the own record in hand.
 fn take_loaded(layout: Layout, removing: Removing, cell: Option<RecordCell>) -> After
+    requires { IsSome (removal_at removing) }
     ensures { (own : TheWrite) → removal_at removing ≡ Some own → IsTaken layout (takes_removing removing false (removal_at removing) (record_or_strange cell)) result }
 {
     let Some(cell) = cell else {
@@ -161,10 +162,11 @@ fn take_loaded(layout: Layout, removing: Removing, cell: Option<RecordCell>) -> 
 }
 
 fn ask_strip(layout: Layout, removing: &Removing, cell: RecordCell) -> Result<Asked, NoMemory>
+    requires { IsSome (removal_at removing.now) }
     ensures { (own : TheWrite) → removal_at removing.now ≡ Some own → IfOk result (λ ask. ask ≡ asked layout (StoreRecord own.key cell.stamp (strip removing.now.attempt.tid cell.versions))) }
 {
     let Some(own) = write_in_hand(removing) else {
-        return Err(NoMemory);
+        unreachable!()
     };
     let RecordCell { stamp, versions } = cell;
     let mut versions = versions;

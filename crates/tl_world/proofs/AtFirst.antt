@@ -1,6 +1,7 @@
 -- The world of a run stands as it opens.
-use Rattle.std.proofs.Common.{◌≡◌, ℕ, ◌+◌, ◌<◌, ◌≤◌, Bool, true, false, List, [], ◌∷◌, ◌++◌, get_or, length, take, Option, Some, None, refl, sym, ap, ◌∙◌, subst, arith}
+use Rattle.std.proofs.Common.{◌≡◌, ℕ, zero, suc, ◌+◌, ◌<◌, ◌≤◌, Bool, true, false, List, [], ◌∷◌, ◌++◌, get_or, length, take, Option, Some, None, refl, sym, ap, ◌∙◌, subst, arith}
 use Rattle.std.specs.Prelude.{◌==◌, ◌^◌, find, if◌then◌else◌}
+use Rattle.std.specs.List.{AllByRecursion}
 use Rattle.std.proofs.lemmas.List.{take_more}
 use Rattle.tl_base.specs.declared.place.Settings.{Settings}
 use Rattle.tl_schema.specs.declared.catalog.Catalog.{Catalog}
@@ -78,6 +79,12 @@ opened_more script settings catalog [] [] session slot h g = (g, tt)
 opened_more script settings catalog [] (x ∷ slots) session slot h g = absurd h
 opened_more script settings catalog (s ∷ sessions) [] session slot h g = absurd h
 opened_more script settings catalog (s ∷ sessions) (x ∷ slots) session slot h g = (h.0, opened_more script settings catalog sessions slots session slot h.1 g)
+
+-- what holds of each of a list holds of the one at this place
+pub at_each : {X : Type 0} (P : X → Type 0) (xs : List X) (at : ℕ) (x : X) → AllByRecursion P xs → at < length xs → x ≡ get_or xs at x → P x
+at_each P [] at x h lt e = absurd (omega arith)
+at_each P (y ∷ ys) zero x h lt e = subst P (sym e) h.0
+at_each P (y ∷ ys) (suc at) x h lt e = at_each P ys at x h.1 (omega arith) e
 
 -- so it goes on, session by session
 pub opened_next : (script : Script) (settings : Settings) (catalog : Catalog) (sessions : List Session) (slots : List SlotValue) (at : ℕ) (session : Session)

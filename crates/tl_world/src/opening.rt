@@ -1,7 +1,9 @@
 //! The slots of a run as it opens.
 
 ghost use Rattle.std.specs.Prelude.{◌≡◌, ◌≤◌, ◌==◌, ◌∷◌, [], IfOk, find};
+ghost use Rattle.std.specs.List.{AllByRecursion};
 ghost use Rattle.std.specs.Option.{option_copied};
+ghost use Rattle.tl_node.specs.Named.{AreNamed};
 ghost use Rattle.tl_journal.specs.Schedule as schedule;
 ghost use Rattle.tl_world.specs.Opening.{AreOpened, IsOpened};
 
@@ -22,6 +24,7 @@ pub fn open_slots(
     requires greatest_shards { settings.now.shards ≤ 16 }
     requires least_managers { 1 ≤ settings.now.managers }
     requires greatest_managers { settings.now.managers ≤ 4 }
+    requires named { AllByRecursion (λ s. AreNamed script.now.catalog s.statements) script.now.sessions }
     ensures { IfOk result (λ slots. AreOpened script.now settings.now script.now.catalog script.now.sessions slots.items) }
 {
     let setup = Setup {
@@ -46,6 +49,7 @@ fn open_slot(
     requires greatest_shards { setup.now.settings.shards ≤ 16 }
     requires least_managers { 1 ≤ setup.now.settings.managers }
     requires greatest_managers { setup.now.settings.managers ≤ 4 }
+    requires named { AreNamed setup.now.catalog session.now.statements }
     ensures { IfOk result (λ slot. IsOpened script.now setup.now.settings setup.now.catalog session.now slot) }
 {
     let node = Node::new(alloc, session, setup)?;

@@ -54,12 +54,13 @@ pub struct World {
 }
 
 impl World {
-    /// The world before the first request.
+    /// The world before the first request of a script that was bound.
     pub fn new(alloc: Global, script: &Script, settings: &Settings) -> Result<World, NoMemory>
         requires least_shards { 1 ≤ settings.now.shards }
         requires greatest_shards { settings.now.shards ≤ 16 }
         requires least_managers { 1 ≤ settings.now.managers }
         requires greatest_managers { settings.now.managers ≤ 4 }
+        requires bound { IsBound script.now settings.now }
         ensures stands { IfOk result (λ w. IsBound script.now settings.now → length script.now.rows < 2 ^ 32 → Stands script.now (seen_as w)) }
         ensures settings { IfOk result (λ w. (seen_as w).settings ≡ settings.now) }
         ensures events { IfOk result (λ w. (seen_as w).events ≡ []) }

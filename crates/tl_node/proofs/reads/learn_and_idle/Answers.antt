@@ -1,14 +1,21 @@
 use Rattle.std.proofs.Common.{◌≡◌, ap, ◌∙◌}
 use Rattle.std.specs.Prelude.{slice_set}
 use Rattle.std.proofs.lemmas.Result.{err_from_is_err_and}
+use Rattle.tl_node.specs.Present.{IsNoEnd}
 use Rattle.tl_node.proofs.Answered.{err_kept}
 use Rattle.tl_node.proofs.IdleAfter.{learnt_idle, learnt_own, learnt_stays, unlearnt}
+use Rattle.tl_node.proofs.Presents.{learnt_present}
 use Rattle.tl_node.proofs.reads.learn_and_idle.Goals as goal
 
 pub say_idle-requires-clause-own : goal.say_idle-requires-clause-own
 say_idle-requires-clause-own c =
     learnt_own c.args.core.now c.learn.new.self c.args.floor.now
     (c.in_ok-learn.ensures.ok ∙ ap (λ m. record c.args.core.now { floors = slice_set c.args.core.now.floors m c.args.floor.now }) c.home.ensures) c.args.txn c.requires.own
+
+pub say_idle-requires-clause-present : goal.say_idle-requires-clause-present
+say_idle-requires-clause-present c =
+    learnt_present c.args.core.now c.learn.new.self c.args.floor.now IsNoEnd
+    (c.in_ok-learn.ensures.ok ∙ ap (λ m. record c.args.core.now { floors = slice_set c.args.core.now.floors m c.args.floor.now }) c.home.ensures) c.requires.present
 
 pub returns-clause-after : goal.returns-clause-after
 returns-clause-after c =

@@ -1,9 +1,10 @@
-use Rattle.std.proofs.Common.{◌≡◌, ◌+◌, ◌<◌, ◌++◌, List, [], ◌∷◌, length, ap, ◌∙◌, arith}
+use Rattle.std.proofs.Common.{◌≡◌, ◌+◌, ◌<◌, ◌++◌, List, [], ◌∷◌, length, length-append, refl, ap, ◌∙◌, arith}
 use Rattle.tl_values.specs.declared.value.Value.{Value}
 use Rattle.tl_txn.specs.Calls.{rows_in, rows_taken}
 use Rattle.tl_node.specs.declared.work.Reading.{Reading as TheReading}
 use Rattle.std.proofs.lemmas.Result.{err_from_is_err_and}
 use Rattle.tl_node.proofs.Answered.{own_kept, ready_taken, stays_but}
+use Rattle.tl_node.proofs.Presents.{read_said, reads_more}
 use Rattle.tl_node.proofs.ReadsOn.{read_wants, reads_all, reads_next}
 use Rattle.tl_node.proofs.reads.read_on.Goals as goal
 
@@ -42,8 +43,18 @@ returns-then-at-count-clause-after c =
 pub returns-then-at-count-clause-stays : goal.returns-then-at-count-clause-stays
 returns-then-at-count-clause-stays c = stays_but c.args.core.now c.say.new.core c.say.ensures.rest
 
-pub read_further-requires : goal.read_further-requires
-read_further-requires c = ready_taken c.args.txn c.rows.new.self c.requires.ready c.rows.ensures.rest
+pub say-requires-clause-present : goal.say-requires-clause-present
+say-requires-clause-present c = read_said c.args.core.now c.args.reading c.requires.present
+
+pub read_further-requires-clause-present : goal.read_further-requires-clause-present
+read_further-requires-clause-present c =
+    let found : length c.args.reading.found ≡ c.args.reading.at = c.requires.present.holds.found in
+    let more : c.push.new.self ≡ c.args.reading.found ++ c.rows.result ∷ [] = c.in_ok-push.ensures.ok in
+    reads_more c.args.core.now c.args.reading (at_next c.args.reading c.push.new.self) c.requires.present refl (omega arith)
+    (ap length more ∙ length-append c.args.reading.found (c.rows.result ∷ []) ∙ ap (λ n. n + 1) found)
+
+pub read_further-requires-clause-ready : goal.read_further-requires-clause-ready
+read_further-requires-clause-ready c = ready_taken c.args.txn c.rows.new.self c.requires.ready c.rows.ensures.rest
 
 pub returns-clause-after : goal.returns-clause-after
 returns-clause-after c =

@@ -1,4 +1,6 @@
+use Rattle.tl_node.specs.View.{stage_of}
 use Rattle.tl_node.proofs.IdleAfter.{idle_strange, idle_takes}
+use Rattle.tl_node.proofs.Presents.{idle_no_end}
 use Rattle.tl_node.proofs.reads.take_idle.Goals as goal
 
 pub returns-in-Some-clause-after : goal.returns-in-Some-clause-after
@@ -8,3 +10,6 @@ returns-in-Some-clause-after c = λ live is.
 
 pub returns-in-None-clause-after : goal.returns-in-None-clause-after
 returns-in-None-clause-after c = λ live is. idle_strange c.args.core.now c.args.stage live c.args.reply.now c.requires.present c.in-None.ensures
+
+pub learn_and_idle-requires-clause-present : goal.learn_and_idle-requires-clause-present
+learn_and_idle-requires-clause-present c = idle_no_end c.args.core.now (stage_of c.args.stage) c.requires.present

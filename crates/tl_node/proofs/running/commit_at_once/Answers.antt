@@ -25,4 +25,4 @@ returns c = λ statement to.
       txn = record txn { phase = commits txn.node floor txn.phase; next = Some (asked txn.layout (ask_commit txn.node floor txn.phase)) };
       stage = c.args.stage;
       course = way.Ends None;
-    })) c.least.ensures)
+    })) c.least.ensures.exact)

@@ -1,4 +1,4 @@
-use Rattle.std.proofs.Common.{◌≡◌, ◌+◌, ◌≤◌, ◌++◌, drop, map}
+use Rattle.std.proofs.Common.{◌≡◌, ◌+◌, ◌<◌, ◌^◌, ◌++◌, drop, map}
 use Rattle.tl_algebra.specs.declared.query.Join.{Join}
 use Rattle.tl_isolation.specs.Tables.{table_of}
 use Rattle.tl_plan.specs.Access.{accesses_of}
@@ -12,5 +12,5 @@ invariant-loop-join l = record {
   made :
       l.accesses ++ accesses_of (map (table_of l.catalog) (map (λ (join : Join). join.table) (drop l.join-index l.join-items))) l.offset l.query.filter
       ≡ query_accesses l.catalog l.query;
-  places : l.offset + width (map (table_of l.catalog) (map (λ (join : Join). join.table) (drop l.join-index l.join-items))) ≤ 256;
+  places : l.offset + width (map (table_of l.catalog) (map (λ (join : Join). join.table) (drop l.join-index l.join-items))) < 2 ^ 64;
 }

@@ -5,10 +5,9 @@ use Rattle.tl_journal.specs.Ask.{Ask}
 use Rattle.tl_txn.proofs.Own.{asks_next}
 use Rattle.tl_txn.proofs.commit.ask_own.Goals as goal
 
-pub returns-in-Some : goal.returns-in-Some
-returns-in-Some c =
+pub returns : goal.returns
+returns c =
     let a = c.args in
-    let found = rw c.in-Some.is at c.own_at.ensures.value in
     λ own e.
     subst (λ (wanted : Ask). IfOk c.ask_write.result (λ ask. ask ≡ asked a.layout wanted))
-    (asks_next a.attempt.now a.at c.in-Some.own.now own a.cell.stamp a.cell.versions c.own_at.ensures.rising (sym found) e) c.ask_write.ensures
+    (asks_next a.attempt.now a.at c.own_within.result.now own a.cell.stamp a.cell.versions c.own_within.ensures.rising c.own_within.ensures.value e) c.ask_write.ensures
