@@ -1,3 +1,5 @@
+ghost use Rattle.std.specs.Prelude.{◌<◌, ◌^◌};
+
 use std::alloc::Global;
 use tl_base::{Items, NoMemory};
 
@@ -42,7 +44,9 @@ impl<'a> Case<'a> {
     }
 
     /// The number that is told behind the word, or else this one.
-    pub fn number(&self, word: &str, otherwise: u16) -> u32 {
+    pub fn number(&self, word: &str, otherwise: u16) -> u32
+        ensures { result < 2 ^ 16 }
+    {
         u32::from(self.told(word).parse::<u16>().unwrap_or(otherwise))
     }
 
