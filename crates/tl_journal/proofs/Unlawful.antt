@@ -1,20 +1,19 @@
 -- What no journal has: a notice that is owed and doesn't follow, and an ending that wasn't due.
-use Rattle.std.proofs.Common.{◌≡◌, ◌⊎◌, inl, inr, suc, ◌<◌, ◌≤◌, ℕ, Bool, true, false, List, [], ◌∷◌, ◌++◌, Some, None, length, nat_lt, nat_le, refl, sym, ap, ◌∙◌, subst, arith}
-use Rattle.std.specs.Prelude.{◌==◌, ◌&&◌, ◌||◌, ◌+◌, filter, not, if◌then◌else◌}
+use Rattle.std.proofs.Common.{◌≡◌, ◌⊎◌, inl, inr, suc, ◌<◌, ◌≤◌, ℕ, Bool, true, false, List, [], ◌∷◌, ◌++◌, Some, None, length, nat_lt, nat_le, refl, sym, ap, ◌∙◌, arith}
+use Rattle.std.specs.Prelude.{◌==◌, ◌&&◌, ◌||◌, filter, not, if◌then◌else◌}
 use Rattle.std.proofs.lemmas.Bool.Decides.{nat_tests}
 use Rattle.std.proofs.lemmas.Bool.{and_parts, both_ways, eq-eqb}
 use Rattle.tl_base.specs.declared.place.Settings.{Settings}
 use Rattle.tl_isolation.specs.declared.entry.Ending.TheVariants as ending
 use Rattle.tl_isolation.specs.declared.script.Script.{Script}
-use Rattle.tl_isolation.specs.declared.script.Session.{Session}
 use Rattle.tl_journal.specs.declared.event.Event.{Event}
 use Rattle.tl_journal.specs.Bytes.{heard}
-use Rattle.tl_journal.specs.Journal.{IsCut, answer_said, has_vanished, is_post, node_after, session_of}
+use Rattle.tl_journal.specs.Journal.{IsCut, answer_said, has_vanished, is_post, node_after}
 use Rattle.tl_journal.specs.Law.{IsRun}
 use Rattle.tl_journal.specs.Memory.{cut_short}
 use Rattle.tl_journal.specs.Node.{Node}
 use Rattle.tl_journal.specs.Outcome.{HasRun}
-use Rattle.tl_journal.specs.Schedule.{EndsSo, InTurn, gave_none, is_done, is_due, is_spent, owes_notice, owing, requests_of, was_cut}
+use Rattle.tl_journal.specs.Schedule.{EndsSo, InTurn, gave_none, is_done, is_due, owes_notice, owing, requests_of, was_cut}
 use Rattle.tl_journal.specs.Strange.{is_stopped}
 use Rattle.tl_journal.proofs.Elsewhere.{after_cut}
 use Rattle.tl_journal.proofs.InOrder.{latest_more}
