@@ -52,7 +52,8 @@ fn layout() -> Layout
 }
 
 // Three rows, not in the order of their keys.
-const SCRIPT: &str = "CREATE TABLE point (x INT PRIMARY KEY, y INT)\nINSERT INTO point VALUES (5, 50)\nINSERT INTO point VALUES (1, 10)\nINSERT INTO point VALUES (2, 20)\n@node 1\nBEGIN\n";
+const SCRIPT: &str =
+    "CREATE TABLE point (x INT PRIMARY KEY, y INT)\nINSERT INTO point VALUES (5, 50)\nINSERT INTO point VALUES (1, 10)\nINSERT INTO point VALUES (2, 20)\n@node 1\nBEGIN\n";
 
 fn places(alloc: Global) -> Result<Places, Fail>
     ensures { IfOk result (λ places. length places.managers ≡ 1) }
