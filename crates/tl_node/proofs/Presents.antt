@@ -1,8 +1,6 @@
 -- The present statement of a node: it is there, names tables of the catalog, and reads what is left to read.
 use Rattle.std.proofs.Common.{◌≡◌, ℕ, zero, suc, ◌+◌, ◌<◌, cond, true, false, List, [], ◌∷◌, Option, Some, drop, length, map, refl, sym, ap, subst, ◌∙◌, arith}
-use Rattle.std.specs.List.{AllByRecursion}
 use Rattle.std.specs.Prelude.{slice_get}
-use Rattle.tl_values.specs.declared.value.Value.{Value}
 use Rattle.tl_schema.specs.declared.access.Access.{Access}
 use Rattle.tl_schema.specs.declared.catalog.Catalog.{Catalog}
 use Rattle.tl_schema.specs.declared.catalog.Table.{Table}
@@ -17,7 +15,7 @@ use Rattle.tl_plan.specs.Access.{accesses_of}
 use Rattle.tl_plan.specs.Plan.{NamesTables, accesses_in, numbers_of}
 use Rattle.tl_descriptor.specs.Tids.{TidSet}
 use Rattle.tl_protocol.specs.World.{Stage, Fresh, Opened, Answering}
-use Rattle.tl_journal.specs.Asks.{Course, ToIdle, ToCommit, ToGiveUp, course_in, statement_course}
+use Rattle.tl_journal.specs.Asks.{ToIdle, ToCommit, ToGiveUp, course_in, statement_course}
 use Rattle.tl_node.specs.Fits.{FitsReading, HasPresent}
 use Rattle.tl_node.specs.Leaves.{learns}
 use Rattle.tl_node.specs.Named.{AreNamed}

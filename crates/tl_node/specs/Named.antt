@@ -1,5 +1,5 @@
 -- The statements of a node name tables of its catalog.
-use Rattle.std.specs.Prelude.{ℕ, List}
+use Rattle.std.specs.Prelude.{List}
 use Rattle.std.specs.Coded.{Unit-prop, le_prop}
 use Rattle.std.specs.List.{AllByRecursion, AllByRecursion-prop}
 use Rattle.tl_schema.specs.declared.catalog.Catalog.{Catalog}
