@@ -1,11 +1,11 @@
 -- What is heard of a manager's reply.
-use Rattle.std.proofs.Common.{◌≡◌, Bool, true, false, refl, sym, ap, ◌∙◌}
+use Rattle.std.proofs.Common.{◌≡◌, Bool, true, false, ap, ◌∙◌}
 use Rattle.std.specs.Prelude.{◌&&◌, not, if◌then◌else◌}
 use Rattle.tl_descriptor.specs.Tids.{TidSet}
 use Rattle.tl_manager.specs.declared.request.ManagerReply.{ManagerReply}
 use Rattle.tl_manager.specs.declared.request.ManagerRequest.TheVariants as manager
 use Rattle.tl_manager.specs.declared.request.Reply.TheVariants as reply
-use Rattle.tl_journal.specs.Ask.{Heard, Told, Strange}
+use Rattle.tl_journal.specs.Ask.{Told, Strange}
 use Rattle.tl_journal.specs.Strange.{has_great, may_answer}
 use Rattle.tl_ask.specs.Hears.{hears_begin, hears_manager}
 

@@ -1,6 +1,5 @@
 -- What a reply is taken for in each case, where a transaction stores its versions or removes them.
-use Rattle.std.proofs.Common.{◌≡◌, ℕ, ◌+◌, ◌≤◌, ◌<◌, Bool, true, false, List, [], ◌∷◌, Option, Some, None, refl, sym, ap, subst}
-use Rattle.std.specs.Prelude.{slice_get}
+use Rattle.std.proofs.Common.{◌≡◌, ℕ, ◌+◌, Bool, true, false, Option, Some, None, refl, sym, ap, subst}
 use Rattle.tl_base.specs.declared.place.Settings.{Settings}
 use Rattle.tl_manager.specs.declared.mark.Mark.{Mark}
 use Rattle.tl_manager.specs.declared.mark.Mark.TheVariants as mark

@@ -17,7 +17,7 @@ use Rattle.tl_manager.specs.declared.request.Reply.TheVariants as reply
 use Rattle.tl_versions.specs.Versions.{is_written, stranger}
 use Rattle.tl_write.specs.declared.write.Write.{Write}
 use Rattle.tl_protocol.specs.Store.{Cell, CommitsCell}
-use Rattle.tl_journal.specs.Ask.{LoadCommits, StoreCommits, AskManager, Heard, Commits, Record, Page, Stored, Moved, Numbers, Told, Strange}
+use Rattle.tl_journal.specs.Ask.{StoreCommits, AskManager, Heard, Commits, Record, Page, Stored, Moved, Numbers, Told, Strange}
 use Rattle.tl_journal.specs.Bytes.{commits_in, heard, home_of}
 use Rattle.tl_journal.specs.Reads as law
 use Rattle.tl_journal.specs.Reads.{range_left, rows_found}

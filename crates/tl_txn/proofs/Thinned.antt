@@ -1,21 +1,19 @@
 -- A node does the same with what code keeps of what it is doing as with all of it.
-use Rattle.std.proofs.Common.{◌≡◌, Bool, List, [], ◌∷◌, Option, Some, None, refl, ap}
+use Rattle.std.proofs.Common.{◌≡◌, Bool, List, ◌∷◌, Option, Some, None, refl, ap}
 use Rattle.tl_base.specs.declared.place.Settings.{Settings}
 use Rattle.tl_schema.specs.declared.catalog.Catalog.{Catalog}
-use Rattle.tl_descriptor.specs.Tids.{TidSet}
 use Rattle.tl_write.specs.declared.write.Write.{Write}
 use Rattle.tl_isolation.specs.declared.bound.Bound.{Bound}
 use Rattle.tl_isolation.specs.declared.entry.Answer.{Answer}
 use Rattle.tl_isolation.specs.declared.state.Commit.{Commit as Committed}
 use Rattle.tl_protocol.specs.Store.{CommitsCell, Key, LogCell}
 use Rattle.tl_protocol.specs.World.{Decision, Loaded, Txn}
-use Rattle.tl_journal.specs.Ask.{Heard, Commits, Record, Stored, Moved}
+use Rattle.tl_journal.specs.Ask.{Heard, Commits, Stored, Moved}
 use Rattle.tl_journal.specs.Asks.{asks_doing}
 use Rattle.tl_journal.specs.Node.{Storing, Removing, Claimed, Lost, Doing, Outside, Noted, Drawing, Bringing, Inside, Reading, Trying, Stores, Removes, Closing, Ending, Recovering, ReadingLog, Stripping, Finishing, EndingLost, Stopped, Node}
-use Rattle.tl_journal.specs.Reads.{Read, Point, Range, Reads}
-use Rattle.tl_journal.specs.Says.{says_doing, says_finishing, says_read}
+use Rattle.tl_journal.specs.Says.{says_doing, says_finishing}
 use Rattle.tl_journal.specs.Strange.{is_odd_for}
-use Rattle.tl_journal.specs.Takes.{after_reply, takes_doing, takes_finishing, takes_read, takes_removing, takes_storing, takes_stripping}
+use Rattle.tl_journal.specs.Takes.{takes_doing, takes_finishing, takes_removing, takes_storing, takes_stripping}
 use Rattle.tl_ask.specs.Thin.{nothing_finished, nothing_loaded, thin}
 use Rattle.tl_txn.specs.Thinned.{DoesThin, thinned}
 

@@ -1,5 +1,5 @@
 -- The marks that hold where memory is wanted before a reply's bytes are read.
-use Rattle.std.proofs.Common.{◌≡◌, ℕ, Bool, true, false, List, [], ◌∷◌, Option, Some, None, refl, inl, inr}
+use Rattle.std.proofs.Common.{ℕ, Bool, true, false, List, [], ◌∷◌, Option, Some, None, refl, inl, inr}
 use Rattle.tl_base.specs.declared.place.Settings.{Settings}
 use Rattle.tl_manager.specs.declared.mark.Mark.{Mark}
 use Rattle.tl_manager.specs.declared.mark.Mark.TheVariants as mark

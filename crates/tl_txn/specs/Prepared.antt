@@ -1,5 +1,5 @@
 -- What a commit has taken memory for.
-use Rattle.std.specs.Prelude.{◌≡◌, ◌<◌, ℕ, ◌^◌, length}
+use Rattle.std.specs.Prelude.{◌≡◌, ◌<◌, ◌^◌, length}
 use Rattle.tl_logrec.specs.Entry.{spelling}
 use Rattle.tl_logrec.specs.declared.entry.Flag.TheVariants as flag
 use Rattle.tl_txn.specs.Attempt.{Attempt, entry_of}

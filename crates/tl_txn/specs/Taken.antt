@@ -14,11 +14,10 @@ use Rattle.tl_manager.specs.declared.request.ManagerRequest.TheVariants as reque
 use Rattle.tl_versions.specs.declared.version.Version.{Version}
 use Rattle.tl_versions.specs.Versions.{is_written, prune, stranger, strip}
 use Rattle.tl_write.specs.declared.write.Write.{Write}
-use Rattle.tl_protocol.specs.Move.{is_empty}
 use Rattle.tl_protocol.specs.Next.{own_version}
 use Rattle.tl_protocol.specs.Store.{Cell, CommitsCell, row_shown}
 use Rattle.tl_protocol.specs.World.{Fresh}
-use Rattle.tl_journal.specs.Ask.{Ask, LoadCommits, StoreCommits, StoreLog, LoadRecord, StoreRecord, ReadPage, DrawNumbers, AskManager, Found, Heard, Commits, Record, Page, Stored, Moved, Numbers, Told}
+use Rattle.tl_journal.specs.Ask.{Ask, LoadCommits, StoreCommits, StoreLog, LoadRecord, StoreRecord, ReadPage, DrawNumbers, AskManager, Heard, Commits, Record, Page, Stored, Moved, Numbers, Told}
 use Rattle.tl_journal.specs.Bytes.{home_of}
 use Rattle.tl_journal.specs.Reads as law
 use Rattle.tl_journal.specs.Reads.{range_left, rows_found}
@@ -26,7 +25,6 @@ use Rattle.tl_txn.specs.Attempt.{Attempt, entry_of, txn_of}
 use Rattle.tl_txn.specs.declared.phase.Decision.{Decision}
 use Rattle.tl_txn.specs.declared.phase.Decision.TheVariants as decision
 use Rattle.tl_txn.specs.declared.phase.Open.{Open}
-use Rattle.tl_txn.specs.declared.phase.PageRead.{PageRead}
 use Rattle.tl_txn.specs.declared.phase.Phase.{Phase}
 use Rattle.tl_txn.specs.declared.phase.Phase.TheVariants as phase
 use Rattle.tl_txn.specs.declared.phase.Read.{Read}

@@ -1,5 +1,4 @@
-use Rattle.std.proofs.Common.{Err, List, ◌∙◌, ap, sym, subst, arith}
-use Rattle.tl_values.specs.Key.{key_bytes}
+use Rattle.std.proofs.Common.{Err, ◌∙◌, ap, sym, arith}
 use Rattle.tl_journal.specs.ForKey.{are_values_of}
 use Rattle.tl_ask.proofs.Columns.{none_tested, values_tested}
 use Rattle.tl_ask.proofs.for_key.are_values_of.Goals as goal

@@ -1,5 +1,4 @@
-use Rattle.std.proofs.Common.{◌≡◌, List, Some, IfOk, sym, ◌∙◌, subst}
-use Rattle.std.specs.Prelude.{slice_get}
+use Rattle.std.proofs.Common.{◌≡◌, IfOk, subst}
 use Rattle.tl_ask.specs.Asked.{asked}
 use Rattle.tl_journal.specs.Ask.{Ask}
 use Rattle.tl_txn.proofs.Own.{asks_next}

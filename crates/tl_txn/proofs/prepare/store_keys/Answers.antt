@@ -1,4 +1,4 @@
-use Rattle.std.proofs.Common.{◌≡◌, ℕ, Bool, true, All, List, map, sym, subst, arith}
+use Rattle.std.proofs.Common.{◌≡◌, ℕ, true, All, List, sym, subst, arith}
 use Rattle.tl_logrec.specs.Entry.{are_rising}
 use Rattle.tl_logrec.specs.Keys.{IsKey}
 use Rattle.tl_txn.proofs.Own.{keys_rise}

@@ -1,6 +1,5 @@
-use Rattle.std.proofs.Common.{◌≡◌, ◌++◌, List, [], ◌∷◌, ℕ, sym, ◌∙◌, ap, subst}
+use Rattle.std.proofs.Common.{◌≡◌, ◌++◌, List, [], ◌∷◌, ℕ, sym, ◌∙◌, ap}
 use Rattle.tl_journal.specs.Ask.{Found}
-use Rattle.tl_journal.specs.Reads.{key_behind}
 use Rattle.tl_txn.proofs.Pages.{key_behind_last}
 use Rattle.tl_txn.proofs.reading.key_behind.Goals as goal
 
