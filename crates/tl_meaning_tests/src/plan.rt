@@ -8,11 +8,11 @@ use crate::fixtures::{rows, test};
 use std::alloc::Global;
 use std::test::Fail;
 use tl_algebra::{Condition, Edit, Expression, Join, Output, Query};
-use tl_base::{Bytes, Items, NoMemory, Text};
+use tl_base::{Bytes, Duplicate, Items, NoMemory, Text};
 use tl_isolation::Bound;
-use tl_plan::{copy_bound, finish, make_plan};
+use tl_plan::{Plan, copy_bound, finish, make_plan};
 use tl_schema::{Access, Catalog};
-use tl_values::{Comparison, Row, Value};
+use tl_values::{Comparison, Row, Rows, Value};
 
 // Tables whose key is both columns, and the first one.
 fn catalog(alloc: Global) -> Result<Catalog, NoMemory>
@@ -82,16 +82,31 @@ fn push_key(keys: &mut Bytes, access: &Access) -> Result<(), NoMemory> {
     }
 }
 
+fn plan_of(alloc: Global, bound: &Bound) -> Result<Plan, NoMemory>
+    requires { (catalog : TheCatalog) → ArePairs catalog → NamesTables catalog bound.now }
+{
+    let catalog = catalog(alloc)?;
+    make_plan(alloc, bound, &catalog)
+}
+
 // Whether the statement reads so many records and ranges, the records of these keys, one behind the other, among them.
 fn reads(alloc: Global, bound: &Bound, count: usize, keys: &[u8]) -> Result<bool, NoMemory>
     requires { (catalog : TheCatalog) → ArePairs catalog → NamesTables catalog bound.now }
 {
-    let plan = make_plan(alloc, bound, &catalog(alloc)?)?;
+    let plan = plan_of(alloc, bound)?;
     let mut found = Bytes::new(alloc);
     for access in &plan.accesses {
         push_key(&mut found, access)?;
     }
     Ok(plan.accesses.len() == count && found.as_slice() == keys)
+}
+
+// A copy of the update.
+fn copied(alloc: Global) -> Result<Bound, NoMemory>
+    ensures { IfOk result (λ bound. (catalog : TheCatalog) → ArePairs catalog → NamesTables catalog bound) }
+{
+    let bound = update(alloc)?;
+    copy_bound(alloc, &bound)
 }
 
 #[test]
@@ -101,16 +116,22 @@ fn a_statement_reads_what_it_names(rt: HostRuntime) -> Result<(), Fail> {
     assert!(rt; reads(alloc, &Bound::Begin, 0, &[])?);
     assert!(rt; reads(alloc, &second, 2, &ONE)?);
     assert!(rt; reads(alloc, &insert(alloc)?, 1, &ONE)?);
-    assert!(rt; reads(alloc, &update(alloc)?, 1, &ONE_TWO)?);
+    assert!(rt; reads(alloc, &copied(alloc)?, 1, &ONE_TWO)?);
     Ok(())
+}
+
+fn one_row_each(alloc: Global) -> Result<[Rows; 2], NoMemory> {
+    let first = rows(alloc, &["1 2"])?;
+    let second = first.copy()?;
+    Ok([first, second])
 }
 
 // How many rows the statement has over tables of one row.
 fn printed(alloc: Global, bound: &Bound) -> Result<usize, Fail>
     requires { (catalog : TheCatalog) → ArePairs catalog → NamesTables catalog bound.now }
 {
-    let plan = make_plan(alloc, &copy_bound(alloc, bound)?, &catalog(alloc)?)?;
-    let tables = [rows(alloc, &["1 2"])?, rows(alloc, &["1 2"])?];
+    let plan = plan_of(alloc, bound)?;
+    let tables = one_row_each(alloc)?;
     Ok(finish(alloc, &plan, &tables)?.len())
 }
 
