@@ -17,18 +17,19 @@ use Rattle.tl_isolation.specs.declared.entry.Answer.TheVariants as answer
 use Rattle.tl_isolation.specs.declared.script.Script.{Script}
 use Rattle.tl_isolation.specs.declared.script.Session.{Session}
 use Rattle.tl_journal.specs.declared.event.Event.{Event}
-use Rattle.tl_journal.specs.Ask.{Ask, AskManager}
+use Rattle.tl_journal.specs.Ask.{Ask, AskManager, Heard}
 use Rattle.tl_journal.specs.Asks.{asks}
 use Rattle.tl_journal.specs.Bytes.{heard, home_of, written}
 use Rattle.tl_journal.specs.Journal.{IsCall, IsEvent, IsPost, is_post, node_after, session_of}
 use Rattle.tl_journal.specs.Law.{IsRun}
 use Rattle.tl_journal.specs.Node.{Node, owed_by}
 use Rattle.tl_journal.specs.Schedule.{is_refusal}
-use Rattle.tl_journal.specs.Strange.{is_odd_for, is_stopped}
+use Rattle.tl_journal.specs.Strange.{is_odd_for, is_stopped, is_strange, sound_heard, stops_at}
 use Rattle.tl_journal.specs.Takes.{takes}
 use Rattle.tl_journal.proofs.Asking.{asks_no_post}
 use Rattle.tl_journal.proofs.Logs.{along_at, at_event, manager_replies}
 use Rattle.tl_journal.proofs.Posted.{home_among}
+use Rattle.tl_journal.proofs.StrangeHeard.{heard_as_said}
 use Rattle.tl_journal.proofs.StrangeReplies.{nothing_strange}
 use Rattle.tl_turns.proofs.Stops.{stops}
 
@@ -71,11 +72,15 @@ module _ (script : Script) (settings : Settings) (past : List Event) (e : Event)
           ap is_post so
           ∙ asks_none ask (λ m d also same. asks_no_post settings script.catalog (node_after settings script past session) m d also (is_asked ∙ ap (λ (x : Ask). Some x) same))
 
+      sane : is_strange settings script.catalog (node_after settings script past session) ask e.reply ≡ false
+      sane = nothing_strange script settings past e rest run rows request_so session is ask is_asked
+
       plain : is_stopped (takes settings script.catalog (node_after settings script past session) (heard ask e.reply) answer.Begun).doing ≡ false
       plain =
-          (or_parts (is_stopped (takes settings script.catalog (node_after settings script past session) (heard ask e.reply) answer.Begun).doing)
-          (is_odd_for (node_after settings script past session).doing (heard ask e.reply))
-          (nothing_strange script settings past e rest run rows request_so session is ask is_asked answer.Begun)).0
+          subst (λ (x : Heard). stops_at settings script.catalog (node_after settings script past session) x ≡ false)
+          (heard_as_said settings script.catalog (node_after settings script past session) ask e.reply is_asked sane)
+          (or_parts (stops_at settings script.catalog (node_after settings script past session) (sound_heard script.catalog ask e.reply))
+          (is_odd_for (node_after settings script past session).doing (sound_heard script.catalog ask e.reply)) sane).0
 
       by : (b : Bool) → is_refusal e.reply ≡ b → b ≡ false
       by false h = refl
