@@ -8,3 +8,4 @@ mod Steps
 mod Strip
 mod FollowsDuties
 mod Follows
+mod NotOdd

@@ -106,6 +106,10 @@ is_awaiting now = true
 abbrev pub IsStrangeAlike : Type 0
 IsStrangeAlike = (t : Turn) → is_awaiting t.now ≡ true → (taken t).step ≡ None → (is_stopped (after t).doing || is_odd t) ≡ true
 
+-- and where it makes a step the reply is not odd
+abbrev pub StepsNotOdd : Type 0
+StepsNotOdd = (t : Turn) (told : TxnStep) → (taken t).step ≡ Some told → is_odd t ≡ false
+
 -- as long as it goes on
 abbrev pub Awaits : Type 0
 Awaits = (t : Turn) (told : Mark) → (taken t).step ≡ Some (step.Going told) → is_awaiting (taken t).phase ≡ true

@@ -1,7 +1,7 @@
 ghost use Rattle.std.specs.Prelude.{◌≡◌, ℕ, List, ◌∷◌};
 ghost use Rattle.tl_base.specs.declared.node.NodeSet.{NodeSet};
 ghost use Rattle.tl_journal.specs.Node.{nodes_in};
-ghost use Rattle.tl_recover.specs.Follows.{Awaits, Begins, Ends, GoesOn, GoesOnOrEnds, HasDuty, IsStrangeAlike, OwesAll};
+ghost use Rattle.tl_recover.specs.Follows.{Awaits, Begins, Ends, GoesOn, GoesOnOrEnds, HasDuty, IsStrangeAlike, OwesAll, StepsNotOdd};
 ghost use Rattle.tl_recover.specs.Taken.{duties_after};
 
 /// Behind the first of the duties that are left, those are left that are after it.
@@ -19,5 +19,6 @@ pub fn recoveries_follow_the_node()
     ensures ends { Ends }
     ensures steps { GoesOnOrEnds }
     ensures strange { IsStrangeAlike }
+    ensures not_odd { StepsNotOdd }
     ensures owed { OwesAll }
 {}

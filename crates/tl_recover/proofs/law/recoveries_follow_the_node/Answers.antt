@@ -3,6 +3,7 @@ use Rattle.tl_manager.specs.declared.mark.TxnStep.TheVariants as step
 use Rattle.tl_journal.specs.Node.{Recovering}
 use Rattle.tl_recover.proofs.Follows.{fits_step, step_only}
 use Rattle.tl_recover.proofs.FollowsDuties.{some_duty}
+use Rattle.tl_recover.proofs.NotOdd.{not_odd}
 use Rattle.tl_recover.proofs.Rising.{after_first}
 use Rattle.tl_recover.proofs.law.recoveries_follow_the_node.Goals as goal
 
@@ -30,3 +31,6 @@ returns-clause-steps c t told h = step_only t told h
 
 pub returns-clause-strange : goal.returns-clause-strange
 returns-clause-strange c t awaited h = fits_step t None h awaited
+
+pub returns-clause-not_odd : goal.returns-clause-not_odd
+returns-clause-not_odd c t told h = not_odd t told h
