@@ -7,6 +7,7 @@ mod FollowsSteps
 mod FollowsThin
 mod Hearing
 mod NodeReads
+mod NotOdd
 mod Own
 mod Pages
 mod Thinned

@@ -11,6 +11,7 @@ use Rattle.tl_logrec.specs.declared.entry.Flag.TheVariants as flag
 use Rattle.tl_logrec.specs.declared.entry.LogEntry.{LogEntry}
 use Rattle.tl_manager.specs.declared.mark.Mark.{Mark}
 use Rattle.tl_manager.specs.declared.mark.Mark.TheVariants as mark
+use Rattle.tl_manager.specs.declared.mark.TxnStep.{TxnStep}
 use Rattle.tl_manager.specs.declared.mark.TxnStep.TheVariants as step
 use Rattle.tl_manager.specs.declared.request.ManagerReply.TheVariants as manager
 use Rattle.tl_manager.specs.declared.request.Reply.{Reply}
@@ -171,6 +172,11 @@ abbrev pub StopsSo : Type 0
 StopsSo = (settings : Settings) (catalog : Catalog) (node : Node) (statement : Bound) (stage : Stage) (phase : Phase) (doing : Doing) (heard : Heard) (told : Answer)
     → Suits catalog node statement stage phase → thin doing ≡ doing_of stage phase → HasInHand phase → MayHear phase heard → (takes settings node.number phase heard).step ≡ None
     → (is_stopped (takes_doing settings catalog node statement doing heard told).doing || is_odd_for doing heard) ≡ true
+
+-- and where it makes a step the reply is not odd to the node
+abbrev pub StepsNotOdd : Type 0
+StepsNotOdd = (settings : Settings) (number : ℕ) (stage : Stage) (phase : Phase) (doing : Doing) (heard : Heard) (made : TxnStep)
+    → thin doing ≡ doing_of stage phase → (takes settings number phase heard).step ≡ Some made → is_odd_for doing heard ≡ false
 
 -- no scan of an index, and no want of memory
 abbrev pub StepsSo : Type 0

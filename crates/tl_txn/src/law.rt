@@ -1,4 +1,4 @@
-ghost use Rattle.tl_txn.specs.Follows.{BeginsSo, CommitsAtOnce, CommitsNothing, EndsSo, GivesUp, GoesOn, HearsCommits, HearsSo, HearsStores, KeepsSo, ReadsAll, ReadsNeverEnd, ReadsOn, ReadsStop, StartsAccesses, StartsCommits, StartsReads, StepsSo, StopsSo, TellsSo};
+ghost use Rattle.tl_txn.specs.Follows.{BeginsSo, CommitsAtOnce, CommitsNothing, EndsSo, GivesUp, GoesOn, HearsCommits, HearsSo, HearsStores, KeepsSo, ReadsAll, ReadsNeverEnd, ReadsOn, ReadsStop, StartsAccesses, StartsCommits, StartsReads, StepsNotOdd, StepsSo, StopsSo, TellsSo};
 ghost use Rattle.tl_txn.specs.NodeReads.{NodeReadsAll, NodeReadsOn, NodeReadsStop};
 ghost use Rattle.tl_txn.specs.Thinned.{DoThin};
 
@@ -11,6 +11,7 @@ pub fn transactions_follow_the_node()
     ensures begun { BeginsSo }
     ensures ended { EndsSo }
     ensures strange { StopsSo }
+    ensures not_odd { StepsNotOdd }
     ensures steps { StepsSo }
     ensures hears { HearsSo }
     ensures hears_commits { HearsCommits }

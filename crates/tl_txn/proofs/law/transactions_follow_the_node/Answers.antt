@@ -4,6 +4,7 @@ use Rattle.tl_txn.proofs.FollowsThin.{begins_so, ends_so, goes_on, kept_thin, st
 use Rattle.tl_txn.proofs.Thinned.{does_thin}
 use Rattle.tl_txn.proofs.FollowsSteps.{IsOwnStep, commits_heard, may_hear, own_step}
 use Rattle.tl_txn.proofs.NodeReads.{node_read_ends, node_read_goes, node_read_stops}
+use Rattle.tl_txn.proofs.NotOdd.{not_odd}
 use Rattle.tl_txn.proofs.law.transactions_follow_the_node.Goals as goal
 
 pub returns-clause-keeps : goal.returns-clause-keeps
@@ -31,6 +32,10 @@ returns-clause-ended c settings catalog commits node statement stage phase doing
 pub returns-clause-strange : goal.returns-clause-strange
 returns-clause-strange c settings catalog node statement stage phase doing heard told h e in_hand heard_so f =
     stops_so settings catalog [] node statement stage phase doing heard told h e in_hand heard_so f
+
+pub returns-clause-not_odd : goal.returns-clause-not_odd
+returns-clause-not_odd c settings number stage phase doing heard made e f =
+    not_odd settings number stage phase doing heard made e f
 
 pub returns-clause-steps : goal.returns-clause-steps
 returns-clause-steps c settings number phase heard mark =
