@@ -206,8 +206,8 @@ module _ (settings : Settings) (catalog : Catalog) (n : Node) (ask : Ask) (p : R
   told_of after m r t = by r (subst (λ x. IsTold x p after m r) (λ i. record { settings = s.settings_are i; catalog = s.catalog_is i; session = v.session; node = s.node_is i; ask = v.ask }) t)
     where
       by : (r : Rest) → IsTold view p after m r → IsToldOf settings catalog n (heard ask p) p after m r
-      by rest.Going t = (stands_alike answer.Begun after t.0, λ commits. sym (says_alike commits answer.Begun) ∙ t.1 commits ∙ marked_alike commits m)
-      by (rest.Said said) t = λ suits. let so = t suits in
+      by rest.Going t = (stands_alike answer.Begun after t.1, λ commits. sym (says_alike commits answer.Begun) ∙ t.2 commits ∙ marked_alike commits m)
+      by (rest.Said said) t = λ suits. let so = t.1 suits in
           record {
             stands = stands_alike (answer_in m said) after so.stands;
             means = means_seen settings catalog n (heard ask p) (answer_in m said)

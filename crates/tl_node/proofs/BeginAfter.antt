@@ -24,7 +24,7 @@ use Rattle.tl_journal.specs.Bytes.{home_of}
 use Rattle.tl_journal.specs.Memory.{is_ending, unsaid}
 use Rattle.tl_journal.specs.Node.{Doing, Noted, Node}
 use Rattle.tl_journal.specs.Says.{says_doing}
-use Rattle.tl_journal.specs.Strange.{is_strange_to}
+use Rattle.tl_journal.specs.Strange.{is_strange_to, is_odd_for, is_stopped}
 use Rattle.tl_journal.specs.Takes.{takes_doing}
 use Rattle.tl_ask.specs.Given.{shown_heard}
 use Rattle.tl_ask.specs.Thin.{thin}
@@ -55,6 +55,7 @@ use Rattle.tl_node.specs.declared.work.Work.{Work}
 use Rattle.tl_node.specs.declared.work.Work.TheVariants as work
 use Rattle.tl_node.proofs.Arrives.{Arrives, arrives_at}
 use Rattle.tl_node.proofs.BeginSteps.{IsPlain, JustBegan, OutcomeOf, StillBegins, at_step}
+use Rattle.tl_node.proofs.NotStrange.{not_strange_at}
 
 -- a node that runs something is at a statement
 pub running_present : (core : Core) (r : Running) → IsFit core (work.Runs r) → HasPresent core (λ statement. FitsRunning core statement r)
@@ -111,10 +112,18 @@ module _ (old : Core) (statement : Bound) (later : List Bound) (e : course_outsi
   no_end (phase.Bringing seen low) b = refl
   no_end other b = absurd b
 
+  runs : (p : Phase) → IsBeginning p → is_stopped (doing_of Fresh p) ≡ false
+  runs phase.Asking b = refl
+  runs (phase.Noted seen) b = refl
+  runs (phase.Drawing seen) b = refl
+  runs (phase.Bringing seen low) b = refl
+  runs other b = absurd b
+
   goes : (txn after : Txn) (told : Reply) (m : Mark) (taken : Taken) → drop (length old.answers.items) old.statements ≡ statement ∷ later → IsOwn old txn → IsSameRun txn after
       → after.phase ≡ taken.phase → after.next ≡ asked_next txn.layout taken.ask
       → StillBegins old.layout old.catalog (At txn.phase) statement (takes_doing old.layout old.catalog (At txn.phase) statement (doing_of Fresh txn.phase) (code.hears old.catalog txn.phase told) answer.Begun)
-      (λ commits. says_doing old.layout old.catalog commits (At txn.phase) statement (doing_of Fresh txn.phase) (code.hears old.catalog txn.phase told) answer.Begun) taken m
+      (λ commits. says_doing old.layout old.catalog commits (At txn.phase) statement (doing_of Fresh txn.phase) (code.hears old.catalog txn.phase told) answer.Begun)
+      (is_odd_for (doing_of Fresh txn.phase) (code.hears old.catalog txn.phase told)) taken m
       → ComesTo old.layout old.catalog (At txn.phase) (code.hears old.catalog txn.phase told) told old m (Ok (next.Goes (work.Runs (first_run after))))
   goes txn after told m taken todo_is own same phase_is next_is b =
       let d : Doing = doing_of Fresh taken.phase in
@@ -131,6 +140,7 @@ module _ (old : Core) (statement : Bound) (later : List Bound) (e : course_outsi
       let a : Arrives old.layout old.catalog old w (at_todo old (statement ∷ later) d) = arrives_at old (statement ∷ later) w d todo_is o in
       record {
         fits = a.fits;
+        not_strange = not_strange_at old.layout old.catalog (At txn.phase) (code.hears old.catalog txn.phase told) _ b.after_is (runs taken.phase b.begins) b.not_odd;
         stands = subst (λ (n : Node). StandsFor old.layout old.catalog n (value_of old w)) (sym b.after_is) a.stands;
         entries = λ commits. b.says_is commits ∙ plain_marked commits old.number told m b.plain;
       }
@@ -256,6 +266,7 @@ module _ (old : Core) (txn : Txn) (told : Reply) (fits : IsFit old (work.Runs (f
             ∙ ap (λ (settings : Settings). (takes settings txn.node txn.phase (code.hears old.catalog txn.phase told)).phase) p.holds.own.layout
             ∙ ap (λ (number : ℕ). (takes old.layout number txn.phase (code.hears old.catalog txn.phase told)).phase) p.holds.own.node
             ∙ h.phase_is;
+        not_odd = h.not_odd;
       }
 
   pub take_ready : (after : Txn) (m : Mark) (new : Core) (result : Result Next NoMemory)

@@ -19,7 +19,7 @@ use Rattle.tl_journal.specs.Ask.{Heard, Commits, Numbers, Told}
 use Rattle.tl_journal.specs.Asks.{Course, ToBegin, asks_doing, course_outside}
 use Rattle.tl_journal.specs.Node.{Outside, Noted, Drawing, Bringing, Node}
 use Rattle.tl_journal.specs.Says as says
-use Rattle.tl_journal.specs.Strange.{is_odd_for, is_stopped}
+use Rattle.tl_journal.specs.Strange.{is_odd_for, is_stopped, is_odd_begin}
 use Rattle.tl_journal.specs.Takes as law
 use Rattle.tl_journal.specs.Takes.{takes_doing, with_doing}
 use Rattle.tl_txn.specs.Doing.{doing_of}
@@ -37,6 +37,13 @@ odd_begin most tid false e = grind (arith, nat_tests)
 odd_drawn : (most old : ℕ) → not (nat_le old most) ≡ true → nat_lt most old ≡ true
 odd_drawn most old e = grind (arith, nat_tests)
 
+even_begin : (most tid : ℕ) (shown : Bool) → not (nat_le tid most && not shown) ≡ false → (nat_lt most tid || shown) ≡ false
+even_begin most tid true e = grind (arith, nat_tests)
+even_begin most tid false e = grind (arith, nat_tests)
+
+even_drawn : (most old : ℕ) → not (nat_le old most) ≡ false → nat_lt most old ≡ false
+even_drawn most old e = grind (arith, nat_tests)
+
 either : (a b : Bool) → b ≡ true → (a || b) ≡ true
 either true b e = refl
 either false b e = e
@@ -48,12 +55,13 @@ IsPlain other = ⊥
 
 module _ (settings : Settings) (catalog : Catalog) (node : Node) (statement : Bound) where
   -- it begins still
-  pub record StillBegins (after : Node) (said : List Commit → List Entry) (taken : Taken) (m : Mark) : Type 0 where
+  pub record StillBegins (after : Node) (said : List Commit → List Entry) (odd : Bool) (taken : Taken) (m : Mark) : Type 0 where
     pub after_is : after ≡ with_doing node (doing_of Fresh taken.phase)
     pub ask_is : asks_doing settings catalog (with_doing node (doing_of Fresh taken.phase)) statement (doing_of Fresh taken.phase) ≡ taken.ask
     pub begins : IsBeginning taken.phase
     pub says_is : (commits : List Commit) → said commits ≡ entries_of node.number m
     pub plain : IsPlain m
+    pub not_odd : odd ≡ false
 
   -- it has begun
   pub record JustBegan (before : Phase) (heard : Heard) (taken : Taken) (m : Mark) : Type 0 where
@@ -65,10 +73,11 @@ module _ (settings : Settings) (catalog : Catalog) (node : Node) (statement : Bo
     pub heard_is : heard ≡ Told (manager.Began tid snapshot floor)
     pub mark_is : m ≡ mark.Began tid
     pub phase_is : taken.phase ≡ phase.Ready (opened tid snapshot)
+    pub not_odd : is_odd_begin tid snapshot ≡ false
 
   abbrev pub ByStep : Phase → Heard → Node → (List Commit → List Entry) → Bool → Taken → Option TxnStep → Type 0
   ByStep before heard after said odd taken None = (is_stopped after.doing || odd) ≡ true
-  ByStep before heard after said odd taken (Some (step.Going m)) = StillBegins after said taken m
+  ByStep before heard after said odd taken (Some (step.Going m)) = StillBegins after said odd taken m
   ByStep before heard after said odd taken (Some (step.Ready m)) = JustBegan before heard taken m
   ByStep before heard after said odd taken other = ⊥
 
@@ -76,14 +85,14 @@ module _ (settings : Settings) (catalog : Catalog) (node : Node) (statement : Bo
   Outcome before heard after said odd taken = ByStep before heard after said odd taken taken.step
 
   unless : (before : Phase) (heard : Heard) (after : Node) (said : List Commit → List Entry) (odd b : Bool) (taken : Taken) → (b ≡ true → odd ≡ true)
-      → Outcome before heard after said odd taken → Outcome before heard after said odd (unless_odd b taken)
+      → (b ≡ false → Outcome before heard after said odd taken) → Outcome before heard after said odd (unless_odd b taken)
   unless before heard after said odd true taken h o = either (is_stopped after.doing) odd (h refl)
-  unless before heard after said odd false taken h o = o
+  unless before heard after said odd false taken h o = o refl
 
   asking : (heard : Heard)
       → Outcome phase.Asking heard (law.takes_outside settings node ToBegin heard) (λ commits. says.says_outside node statement ToBegin heard) (is_odd_for Outside heard)
       (code.takes_asking settings node.number heard)
-  asking (Commits c) = record { after_is = refl; ask_is = refl; begins = tt; says_is = λ commits. refl; plain = tt }
+  asking (Commits c) = record { after_is = refl; ask_is = refl; begins = tt; says_is = λ commits. refl; plain = tt; not_odd = refl }
   asking heard = refl
 
   noted : (seen : TidSet) (heard : Heard)
@@ -91,21 +100,32 @@ module _ (settings : Settings) (catalog : Catalog) (node : Node) (statement : Bo
       (code.takes_noted settings node.number seen heard)
   noted seen (Told (manager.Began tid snapshot floor)) =
       unless (phase.Noted seen) (Told (manager.Began tid snapshot floor)) _ _ _ _ _ (odd_begin (2 ^ 62) tid (has snapshot tid))
-      (record { seen = seen; tid = tid; snapshot = snapshot; floor = floor; before_is = refl; heard_is = refl; mark_is = refl; phase_is = refl })
-  noted seen (Told manager.NeedRange) = record { after_is = refl; ask_is = refl; begins = tt; says_is = λ commits. refl; plain = tt }
+      (λ e.
+      record {
+        seen = seen;
+        tid = tid;
+        snapshot = snapshot;
+        floor = floor;
+        before_is = refl;
+        heard_is = refl;
+        mark_is = refl;
+        phase_is = refl;
+        not_odd = even_begin (2 ^ 62) tid (has snapshot tid) e;
+      })
+  noted seen (Told manager.NeedRange) = record { after_is = refl; ask_is = refl; begins = tt; says_is = λ commits. refl; plain = tt; not_odd = refl }
   noted seen heard = refl
 
   drawing : (seen : TidSet) (heard : Heard)
       → Outcome (phase.Drawing seen) heard (law.takes_drawing node seen heard) (λ commits. []) (is_odd_for (Drawing seen) heard) (code.takes_drawing settings node.number seen heard)
   drawing seen (Numbers old) =
       unless (phase.Drawing seen) (Numbers old) _ _ _ _ _ (odd_drawn (2 ^ 62) (old + 16))
-      (record { after_is = refl; ask_is = refl; begins = tt; says_is = λ commits. refl; plain = tt })
+      (λ e. record { after_is = refl; ask_is = refl; begins = tt; says_is = λ commits. refl; plain = tt; not_odd = even_drawn (2 ^ 62) (old + 16) e })
   drawing seen heard = refl
 
   bringing : (seen : TidSet) (low : ℕ) (heard : Heard)
       → Outcome (phase.Bringing seen low) heard (law.takes_bringing node seen heard) (λ commits. []) (is_odd_for (Bringing seen low) heard)
       (code.takes_bringing settings node.number seen heard)
-  bringing seen low (Told manager.Ranged) = record { after_is = refl; ask_is = refl; begins = tt; says_is = λ commits. refl; plain = tt }
+  bringing seen low (Told manager.Ranged) = record { after_is = refl; ask_is = refl; begins = tt; says_is = λ commits. refl; plain = tt; not_odd = refl }
   bringing seen low heard = refl
 
   abbrev pub OutcomeOf : Phase → Heard → Option TxnStep → Type 0

@@ -1,5 +1,5 @@
 -- A transaction has begun: its node goes on with the present statement, or answers BEGIN.
-use Rattle.std.proofs.Common.{◌≡◌, ℕ, List, [], ◌∷◌, length, drop, Option, Some, None, Result, Ok, Err, inl, refl, sym, ap, subst}
+use Rattle.std.proofs.Common.{◌≡◌, ℕ, false, List, [], ◌∷◌, length, drop, Option, Some, None, Result, Ok, Err, inl, refl, sym, ap, subst}
 use Rattle.tl_base.specs.declared.memory.NoMemory.{NoMemory}
 use Rattle.tl_descriptor.specs.Tids.{TidSet}
 use Rattle.tl_isolation.specs.declared.bound.Bound.{Bound}
@@ -36,10 +36,12 @@ use Rattle.tl_node.specs.declared.work.Next.TheVariants as next
 use Rattle.tl_node.specs.declared.work.Stage.TheVariants as stage
 use Rattle.tl_node.specs.declared.work.Work.{Work}
 use Rattle.tl_node.proofs.Arrives.{Arrives, answered_at, answers_on, arrives_at}
+use Rattle.tl_journal.specs.Strange.{is_odd_begin}
+use Rattle.tl_node.proofs.NotStrange.{not_strange_at}
 
 -- ---- the node of the law, once its present statement is in hand
 
-module _ (old new : Core) (seen : TidSet) (later : List Bound) (tid : ℕ) (snapshot floor : TidSet) where
+module _ (old new : Core) (seen : TidSet) (later : List Bound) (tid : ℕ) (snapshot floor : TidSet) (not_odd : is_odd_begin tid snapshot ≡ false) where
   abbrev pub Comes : Bound → Result Next NoMemory → Type 0
   Comes statement result =
       ComesTo old.layout old.catalog (at_todo old (statement ∷ later) (Noted seen)) (Told (manager.Began tid snapshot floor)) (reply.Manager (manager.Began tid snapshot floor)) new
@@ -52,6 +54,7 @@ module _ (old new : Core) (seen : TidSet) (later : List Bound) (tid : ℕ) (snap
       answers_on (learns old floor) new answer.Begun bound.Begin later stage.Opened (opened tid snapshot) (phase.Ready (opened tid snapshot)) w todo_is on.rest on.answers refl on.opens in
       record {
         fits = a.fits;
+        not_strange = not_odd;
         so = λ suits. record {
           stands = a.stands;
           means = tt;
@@ -80,6 +83,8 @@ module _ (old new : Core) (seen : TidSet) (later : List Bound) (tid : ℕ) (snap
       (mark.Began tid) c w) (sym same)
       (record {
         fits = a.fits;
+        not_strange =
+            not_strange_at old.layout old.catalog (at_todo old (statement ∷ later) (Noted seen)) (Told (manager.Began tid snapshot floor)) _ is.takes_is refl not_odd;
         stands = subst (λ (n : Node). StandsFor old.layout old.catalog n (value_of (learns old floor) w)) (sym is.takes_is) a.stands;
         entries = is.says_is;
       })
@@ -112,7 +117,7 @@ pub begun_comes : (old new : Core) (txn : Txn) (told : Reply) (seen : TidSet) (r
 begun_comes old new txn told seen result present begun floor heard on =
     subst (BegunBy old new seen told result) (sym present.todo_is)
     (subst (λ (r : Reply). BegunBy old new seen r result (present.statement ∷ present.later)) (sym begun.told_is)
-    (comes old new seen present.later begun.tid begun.snapshot begun.floor present.statement result present.todo_is
+    (comes old new seen present.later begun.tid begun.snapshot begun.floor begun.not_odd present.statement result present.todo_is
     (subst (λ (set : TidSet). EntersBy present.statement old set (phase.Ready (opened begun.tid begun.snapshot)) new result) same
     (subst (λ (p : Phase). EntersBy present.statement old floor p new result) begun.phase_is on))))
   where

@@ -33,14 +33,14 @@ use Rattle.tl_journal.specs.Memory.{is_ending, unsaid}
 use Rattle.tl_journal.specs.Node.{Doing, Outside, Inside, Node}
 use Rattle.tl_journal.specs.Node as law
 use Rattle.tl_journal.specs.Says.{says_at}
-use Rattle.tl_journal.specs.Strange.{is_strange_to}
+use Rattle.tl_journal.specs.Strange.{is_strange_to, is_stopped}
 use Rattle.tl_journal.specs.Takes.{takes_doing, with_doing}
 use Rattle.tl_ask.specs.Thin.{loaded_if, thin}
 use Rattle.tl_txn.specs.After.{IsKnown, IsTaken, IsTold, Stops, asked_next, does}
 use Rattle.tl_txn.specs.Attempt.{txn_of}
 use Rattle.tl_txn.specs.Calls.{conflict_in}
 use Rattle.tl_txn.specs.Doing.{doing_of, removing_of, storing_of, txn_in}
-use Rattle.tl_txn.specs.Follows.{CommitsNothing, GivesUp, Goes, GoesOn, HasInHand, HearsCommits, KeepsSo, MayHear, StopsSo, Suits, TellsSo}
+use Rattle.tl_txn.specs.Follows.{CommitsNothing, GivesUp, Goes, GoesOn, HasInHand, HearsCommits, KeepsSo, MayHear, StopsSo, Suits, TellsSo, StepsNotOdd}
 use Rattle.tl_txn.specs.Hears as awaited
 use Rattle.tl_txn.specs.Marks.{entries_of}
 use Rattle.tl_txn.specs.Run.{IsSameRun}
@@ -72,6 +72,7 @@ use Rattle.tl_node.proofs.EndMarks.{GoesTo, IsBehind, StepsTo, is_finished, take
 use Rattle.tl_node.proofs.Opening.{node_with, none_left, same_node, some_left}
 use Rattle.tl_node.proofs.Recovering.{is_inside, settled_same}
 use Rattle.tl_node.proofs.Heard.{commits_shown, stored_commits, stored_log, stored_record}
+use Rattle.tl_node.proofs.NotStrange.{kept_runs, not_strange_at}
 
 -- ---- what it hears
 
@@ -143,6 +144,9 @@ goes_ending = goes_by IsEnding (λ s. tt) (λ r. tt) (λ tid d loaded. tt) (λ t
 goes_apart : (stage : protocol.Stage) (m : Mark) (now : Phase) → GoesTo m now → is_inside (doing_of stage now) ≡ false
 goes_apart stage = goes_by (λ now. is_inside (doing_of stage now) ≡ false) (λ s. refl) (λ r. refl) (λ tid d loaded. refl) (λ tid d. refl)
 
+goes_runs : (stage : protocol.Stage) (m : Mark) (now : Phase) → GoesTo m now → is_stopped (doing_of stage now) ≡ false
+goes_runs stage = goes_by (λ now. is_stopped (doing_of stage now) ≡ false) (λ s. refl) (λ r. refl) (λ tid d loaded. refl) (λ tid d. refl)
+
 may_end : (core : Core) (txn : Txn) (stage : Stage) (now : Phase) (m : Mark) (last : Option Last) → GoesTo m now
     → IsReadied core (record txn { phase = now }) stage m last → MayEnd core (stage_of stage) now last
 may_end core txn stage now mark.Quiet last h r = behind_by (λ p. MayEnd core (stage_of stage) p last) (λ s. r) (λ x. r) (λ tid d loaded. r) now h
@@ -185,7 +189,7 @@ known commits number told es other m f e h = inr (e ∙ f ∙ ap (marked commits
 
 -- ---- the reply
 
-module _ (keeps : KeepsSo) (going : GoesOn) (tells_so : TellsSo) (stops_so : StopsSo) (hears_commits : HearsCommits) (commits_nothing : CommitsNothing) (gives_up : GivesUp)
+module _ (keeps : KeepsSo) (going : GoesOn) (tells_so : TellsSo) (stops_so : StopsSo) (not_odd : StepsNotOdd) (hears_commits : HearsCommits) (commits_nothing : CommitsNothing) (gives_up : GivesUp)
     (core : Core) (statement : Bound) (later : List Bound) (stage : Stage) (now : Phase) (told : Reply)
     (todo_is : drop (length core.answers.items) core.statements ≡ statement ∷ later)
     (ends : IsEnding now) (unfinished : is_finished now ≡ false)
@@ -254,6 +258,10 @@ module _ (keeps : KeepsSo) (going : GoesOn) (tells_so : TellsSo) (stops_so : Sto
         may_end new txn stage txn.phase m last (subst (GoesTo m) (sym phase_is) (goes_to m e)) ready,
       );
     });
+    not_strange =
+        not_strange_at core.layout core.catalog n sound (with_doing n d) after.after_is
+        (kept_runs d (doing_of st outcome.phase) after.thin_is (goes_runs st m outcome.phase (goes_to m e)))
+        (not_odd core.layout core.number st now (doing_of st now) sound (step.Going m) (keeps st now) e);
     stands = record {
       settings_are = layout_stays;
       catalog_is = catalog_stays;
@@ -346,6 +354,7 @@ pub record EndLaw : Type 0 where
   pub going : GoesOn
   pub tells_so : TellsSo
   pub stops_so : StopsSo
+  pub not_odd : StepsNotOdd
   pub hears_commits : HearsCommits
   pub commits_nothing : CommitsNothing
   pub gives_up : GivesUp
@@ -398,7 +407,7 @@ module _ (law : EndLaw) (core : Core) (txn after : Txn) (stage : Stage) (told : 
       by (statement ∷ later) e f =
           let end : is_finished txn.phase ≡ false = unfinished_so core (stage_of stage) txn.phase f.course.3 in
           subst (λ x. ComesTo core.layout core.catalog (node_with core (statement ∷ later) (doing_of (stage_of stage) txn.phase)) x told new m result)
-          (sym (hears_end law.keeps law.going law.tells_so law.stops_so law.hears_commits law.commits_nothing law.gives_up core statement later stage txn.phase told e
+          (sym (hears_end law.keeps law.going law.tells_so law.stops_so law.not_odd law.hears_commits law.commits_nothing law.gives_up core statement later stage txn.phase told e
           f.course.0 end f.course.1 f.course.2))
           (h statement later e f.course.0 end f.course.1 f.course.2 f.own.layout f.own.node)
 
@@ -417,7 +426,7 @@ module _ (law : EndLaw) (core : Core) (txn after : Txn) (stage : Stage) (told : 
   end_going new m result e ready = at_end new m result
       (λ statement later todo_is ends unfinished suits in_hand layout_is node_is.
       let t : record { phase = after.phase; next = after.next; step = Some (step.Going m) } ≡ does core.layout outcome_of = does_so (step.Going m) e layout_is node_is in
-      goes_to_end law.keeps law.going law.tells_so law.stops_so law.hears_commits law.commits_nothing law.gives_up core statement later stage txn.phase told todo_is
+      goes_to_end law.keeps law.going law.tells_so law.stops_so law.not_odd law.hears_commits law.commits_nothing law.gives_up core statement later stage txn.phase told todo_is
       ends unfinished suits in_hand new after m result (sym (ap (λ (a : After). a.step) t)) (same_run.layout_is ∙ layout_is) (same_run.node_is ∙ node_is)
       (ap (λ (a : After). a.phase) t) (ap (λ (a : After). a.next) t) ready)
 
@@ -425,7 +434,7 @@ module _ (law : EndLaw) (core : Core) (txn after : Txn) (stage : Stage) (told : 
   end_wanting fault m e = at_end core m (Err fault)
       (λ statement later todo_is ends unfinished suits in_hand layout_is node_is.
       let t : Stops outcome_of (record { phase = after.phase; next = after.next; step = Some (step.NoMemory m) }) m = does_so (step.NoMemory m) e layout_is node_is in
-      wants law.keeps law.going law.tells_so law.stops_so law.hears_commits law.commits_nothing law.gives_up core statement later stage txn.phase told todo_is
+      wants law.keeps law.going law.tells_so law.stops_so law.not_odd law.hears_commits law.commits_nothing law.gives_up core statement later stage txn.phase told todo_is
       ends unfinished suits in_hand fault m outcome_of.step refl t.1)
 
   pub end_stops : made ≡ None → IsAfter core.layout core.catalog (node_at core w_before) told core mark.Quiet (Ok next.Strange)
@@ -433,7 +442,7 @@ module _ (law : EndLaw) (core : Core) (txn after : Txn) (stage : Stage) (told : 
       (λ statement later todo_is ends unfinished suits in_hand layout_is node_is.
       let t : record { phase = after.phase; next = after.next; step = None } ≡ does core.layout outcome_of =
       subst (λ x. IsTaken core.layout outcome_of (record { phase = after.phase; next = after.next; step = x })) e (taken_is layout_is node_is) in
-      stops law.keeps law.going law.tells_so law.stops_so law.hears_commits law.commits_nothing law.gives_up core statement later stage txn.phase told todo_is
+      stops law.keeps law.going law.tells_so law.stops_so law.not_odd law.hears_commits law.commits_nothing law.gives_up core statement later stage txn.phase told todo_is
       ends unfinished suits in_hand (sym (ap (λ (a : After). a.step) t)))
 
   -- no other step is told
@@ -448,7 +457,7 @@ module _ (law : EndLaw) (core : Core) (txn after : Txn) (stage : Stage) (told : 
   never_told : (s : TxnStep) → made ≡ Some s → is_other (Some s) ≡ true → IsAfter core.layout core.catalog (node_at core w_before) told core mark.Quiet (Ok next.Strange)
   never_told s e r = at_end core mark.Quiet (Ok next.Strange)
       (λ statement later todo_is ends unfinished suits in_hand layout_is node_is.
-      never law.keeps law.going law.tells_so law.stops_so law.hears_commits law.commits_nothing law.gives_up core statement later stage txn.phase told todo_is
+      never law.keeps law.going law.tells_so law.stops_so law.not_odd law.hears_commits law.commits_nothing law.gives_up core statement later stage txn.phase told todo_is
       ends unfinished suits in_hand s (step_is s r (does_so s e layout_is node_is)) (not_going s r))
 
   pub end_other : (s : Option TxnStep) → made ≡ s → is_other s ≡ true → IsAfter core.layout core.catalog (node_at core w_before) told core mark.Quiet (Ok next.Strange)

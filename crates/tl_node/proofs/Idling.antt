@@ -58,6 +58,9 @@ use Rattle.tl_node.specs.declared.work.Work.{Work}
 use Rattle.tl_node.proofs.Arrives.{Arrives, answered_at, answers_on}
 use Rattle.tl_node.proofs.Found.{first_left}
 use Rattle.tl_node.proofs.Saying.{entry_is}
+use Rattle.tl_journal.specs.Strange.{is_strange_to}
+use Rattle.tl_journal.proofs.StrangeStops.{idles_runs}
+use Rattle.tl_node.proofs.NotStrange.{not_strange_at}
 
 -- the law says the statement, once its manager's low-water mark is known
 module _ (old : Core) (statement : Bound) (later : List Bound) (t : Txn) (floor : TidSet) (e : course_in old.catalog t.stage statement ≡ ToIdle) where
@@ -74,6 +77,10 @@ module _ (old : Core) (statement : Bound) (later : List Bound) (t : Txn) (floor 
         takes_is = λ told. ap (λ (c : Course). takes_inside old.layout old.catalog At statement t c (Told (manager.FloorIs floor)) told) e;
         says_is = λ commits mark told. ap (λ (c : Course). says_inside old.layout At statement t c (Told (manager.FloorIs floor)) told) e ∙ says_so statement mark told;
         means_is = λ told h. subst (λ (c : Course). MeansInside old.layout old.catalog statement t c (Told (manager.FloorIs floor)) told) (sym e) h;
+        not_strange =
+            not_strange_at old.layout old.catalog At (Told (manager.FloorIs floor)) _
+            (ap (λ (c : Course). takes_inside old.layout old.catalog At statement t c (Told (manager.FloorIs floor)) answer.Begun) e)
+            (idles_runs old.catalog (at_todo (learns old floor) (statement ∷ later) (Inside t)) statement t (begin_reads (all_reads old.catalog statement)) answer.Begun) refl;
         no_end = refl;
         suits = λ suits. suits;
       }
@@ -93,16 +100,17 @@ IsNested other = ⊥
 module _ (old new : Core) (n : Node) (sound : Heard) (told : Reply) (later : List Bound) (said : TheStage) (live : Open) (so_far : Phase) (is : so_far ≡ phase.Ready live) where
   nested : (statement : Bound) (w : Work) (s : Said) → drop (length old.answers.items) old.statements ≡ statement ∷ later → SaysOn old answer.Nested so_far said new w s
       → takes old.layout old.catalog n sound answer.Nested ≡ answered_at old later answer.Nested (Inside (txn_in (stage_of said) live))
-      → MayMean old.layout old.catalog n sound answer.Nested
+      → MayMean old.layout old.catalog n sound answer.Nested → is_strange_to old.layout old.catalog n sound ≡ false
       → ((commits : List Commit) → says_at old.layout old.catalog commits n sound answer.Nested
       ≡ [] ++ entry.Said n.number (statement_in n.todo) (record { statement = length old.answers.items + 1; answer = answer.Nested; answered = true }) ∷ [])
       → ComesTo old.layout old.catalog n sound told new mark.Quiet (Ok (next.Says w s))
-  nested statement w s todo_is on takes_is means entries =
+  nested statement w s todo_is on takes_is means not_strange entries =
       let a : Arrives old.layout old.catalog new w (answered_at old later answer.Nested (Inside (txn_in (stage_of said) live))) =
       answers_on old new answer.Nested statement later said live so_far w todo_is on.rest on.answers is on.opens in
       subst (λ (x : Said). Says old.layout old.catalog n sound told mark.Quiet new w x) (sym on.said_is)
       (record {
         fits = a.fits;
+        not_strange = not_strange;
         so = λ suits. record {
           stands = subst (λ (m : Node). StandsFor old.layout old.catalog m (value_of new w)) (sym takes_is) a.stands;
           means = means;
@@ -114,10 +122,10 @@ module _ (old new : Core) (n : Node) (sound : Heard) (told : Reply) (later : Lis
       → IdlesNext old n sound statement later (txn_in (stage_of said) live) → SaysOn old answer.Nested so_far said new w s
       → ComesTo old.layout old.catalog n sound told new mark.Quiet (Ok (next.Says w s))
   nested_says bound.Begin w s h todo_is nexts on =
-      nested bound.Begin w s todo_is on (nexts.takes_is answer.Nested) (nexts.means_is answer.Nested tt)
+      nested bound.Begin w s todo_is on (nexts.takes_is answer.Nested) (nexts.means_is answer.Nested tt) nexts.not_strange
       (λ commits. nexts.says_is commits opening_copy answer.Nested ∙ entry_is old new n sound told bound.Begin later (record { statement = length old.answers.items + 1; answer = answer.Nested; answered = true }) nexts.n_is nexts.number_is)
   nested_says (bound.Recover gone) w s h todo_is nexts on =
-      nested (bound.Recover gone) w s todo_is on (nexts.takes_is answer.Nested) (nexts.means_is answer.Nested tt)
+      nested (bound.Recover gone) w s todo_is on (nexts.takes_is answer.Nested) (nexts.means_is answer.Nested tt) nexts.not_strange
       (λ commits. nexts.says_is commits opening_copy answer.Nested ∙ entry_is old new n sound told (bound.Recover gone) later (record { statement = length old.answers.items + 1; answer = answer.Nested; answered = true }) nexts.n_is nexts.number_is)
   nested_says other w s h todo_is nexts on = absurd h
 
@@ -202,6 +210,7 @@ module _ (old new : Core) (txn : TheTxn) (said : TheStage) where
             (tables_read (begin_reads (all_reads old.catalog (bound.Select query)))) told;
         says_is = λ commits told. nexts.says_is commits opening_copy told;
         means_is = nexts.means_is;
+        not_strange = nexts.not_strange;
         no_end = nexts.no_end;
         suits = nexts.suits;
       }
@@ -215,6 +224,7 @@ module _ (old new : Core) (txn : TheTxn) (said : TheStage) where
             (tables_read (begin_reads (all_reads old.catalog (bound.Change edit)))) told;
         says_is = λ commits told. nexts.says_is commits opening_copy told;
         means_is = nexts.means_is;
+        not_strange = nexts.not_strange;
         no_end = nexts.no_end;
         suits = nexts.suits;
       }

@@ -78,6 +78,7 @@ module _ (core : Core) (statement : Bound) (later : List Bound) (tid : ℕ) (a :
         following = subst (λ x. IsOpening core (length core.answers.items + 1) x) (sym e.following_is) fits.following;
       } in record {
         fits = left_fits core new statement later a o said todo_is left;
+        not_strange = refl;
         so = λ suits. record {
           stands = left_stands core new statement later a o said todo_is left;
           means = tt;

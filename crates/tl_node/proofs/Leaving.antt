@@ -25,6 +25,7 @@ use Rattle.tl_node.specs.declared.work.Next.TheVariants as next
 use Rattle.tl_node.specs.declared.work.Outside.{Outside as TheOutside}
 use Rattle.tl_node.specs.declared.work.Work.TheVariants as work
 use Rattle.tl_node.proofs.Opening.{left_fits, left_stands, node_left}
+use Rattle.tl_journal.specs.Strange.{is_strange_to}
 
 -- what is said of the present statement of a node with so many answers
 abbrev pub says_it : ℕ → Answer → Said
@@ -34,6 +35,7 @@ says_it done told = record { statement = done + 1; answer = told; answered = tru
 pub record IsLeaving (mid : Core) (n : Node) (sound : Heard) (statement : Bound) (later : List Bound) (told : Answer) : Type 0 where
   pub left : is_empty n.todo ≡ false
   pub answers : n.answers ≡ mid.answers.items
+  pub not_strange : is_strange_to mid.layout mid.catalog n sound ≡ false
   pub no_end : is_ending n.doing ≡ false
   pub takes_is : (a : Answer) → takes mid.layout mid.catalog n sound a ≡ node_left mid later told
   pub means : (a : Answer) → MayMean mid.layout mid.catalog n sound a
@@ -46,6 +48,7 @@ module _ (mid new : Core) (n : Node) (sound : Heard) (heard_as : Reply) (stateme
       → Says mid.layout mid.catalog n sound heard_as mark.Quiet new (work.Outside o) said
   left_says o said left = record {
     fits = left_fits mid new statement later told o said todo_is left;
+    not_strange = law.not_strange;
     so = λ suits. record {
       stands = subst (λ m. StandsFor mid.layout mid.catalog m (value_of new (work.Outside o))) (sym (law.takes_is said.answer))
           (left_stands mid new statement later told o said todo_is left);

@@ -21,6 +21,7 @@ mod LastReplies
 mod Leads
 mod LeadsReads
 mod Leaving
+mod NotStrange
 mod Opening
 mod Opens
 mod Others

@@ -48,6 +48,7 @@ use Rattle.tl_node.specs.declared.work.Work.TheVariants as work
 use Rattle.tl_node.proofs.Opening.{node_with, same_node}
 use Rattle.tl_node.proofs.OutsideReplies.{floor_told}
 use Rattle.tl_node.proofs.Heard.{IsOfManager, manager_alike, of_manager}
+use Rattle.tl_node.proofs.NotStrange.{not_strange_at}
 
 -- a transaction that is to commit what it wrote, once another manager has told its low-water mark
 pub record IsWaiting (core : Core) (statement : Bound) (stage : protocol.Stage) (m : ℕ) (now : Phase) : Type 0 where
@@ -146,6 +147,8 @@ module _ (core : Core) (statement : Bound) (later : List Bound) (stage : Stage) 
         subst (λ p. MayEnd mid (stage_of stage) p None) (sym phase_is) refl,
       );
     });
+    not_strange =
+        not_strange_at core.layout core.catalog waiting (Told (manager.FloorIs floor)) _ (takes_other core statement later stage live told todo_is course_is floor) refl refl;
     stands = record {
       settings_are = refl;
       catalog_is = refl;

@@ -50,6 +50,7 @@ use Rattle.tl_node.specs.declared.work.Work.{Work}
 use Rattle.tl_node.specs.declared.work.Work.TheVariants as work
 use Rattle.tl_node.proofs.Leaving.{IsLeaving, left_comes, left_wants}
 use Rattle.tl_node.proofs.Opening.{node_with, outside_doing, same_node, todo_outside}
+use Rattle.tl_node.proofs.NotStrange.{not_strange_at}
 
 -- ---- COMMIT and ROLLBACK
 
@@ -82,6 +83,9 @@ module _ (core : Core) (statement : Bound) (later : List Bound) (course_is : cou
   leaving_idle floor = record {
     left = refl;
     answers = refl;
+    not_strange =
+        not_strange_at core.layout core.catalog (node_with core (statement ∷ later) Outside) (Told (manager.FloorIs floor)) _
+        (ap (λ c. takes_outside core.layout (node_with core (statement ∷ later) Outside) c (Told (manager.FloorIs floor))) course_is) refl refl;
     no_end = refl;
     takes_is = λ a. ap (λ c. takes_outside core.layout (node_with core (statement ∷ later) Outside) c (Told (manager.FloorIs floor))) course_is;
     means = λ a. tt;
@@ -172,6 +176,7 @@ leaving_claim : (core : Core) (gone : ℕ) (later : List Bound)
 leaving_claim core gone later = record {
   left = refl;
   answers = refl;
+  not_strange = refl;
   no_end = refl;
   takes_is = λ a. refl;
   means = λ a. tt;
@@ -244,6 +249,7 @@ claim_given law core gone also told (work.Recovers node recover) present e start
     goes later todo_is = record {
       fits = subst (λ todo. FitsAll core todo (work.Recovers node recover)) (sym todo_is)
           (ap (λ n. bound.Recover n) (sym started.0), started.1.layout, first_awaits recover.phase least started.1.first.3);
+      not_strange = refl;
       stands = record {
         settings_are = refl;
         catalog_is = refl;
@@ -325,6 +331,7 @@ done_after core told fits = by (drop (length core.answers.items) core.statements
         → IsAfter core.layout core.catalog (node_with core todo (doing_so todo (work.Outside outside.Done))) told core mark.Quiet (Ok (next.Goes (work.Outside outside.Done)))
     by [] e f = record {
       fits = fits;
+      not_strange = refl;
       stands = record {
         settings_are = refl;
         catalog_is = refl;

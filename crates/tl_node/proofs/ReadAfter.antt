@@ -61,6 +61,8 @@ use Rattle.tl_node.specs.declared.work.Work.{Work}
 use Rattle.tl_node.specs.declared.work.Work.TheVariants as work
 use Rattle.tl_node.proofs.Arrives.{Arrives, arrives_at}
 use Rattle.tl_node.proofs.BeginAfter.{asked_same, running_present}
+use Rattle.tl_journal.proofs.StrangeStops.{on_runs}
+use Rattle.tl_node.proofs.NotStrange.{not_strange_at}
 
 -- ---- the reads
 
@@ -200,6 +202,7 @@ module _ (old : Core) (statement : Bound) (later : List Bound) (said : Stage) (r
       let a : Arrives old.layout old.catalog old w (at_todo old (statement ∷ later) (Reading T g.next_reads)) = arrives_at old (statement ∷ later) w (Reading T g.next_reads) todo_is o in
       record {
         fits = a.fits;
+        not_strange = not_strange_at old.layout old.catalog At (code.hears_reading old.catalog r told) _ g.takes_is refl refl;
         stands = subst (λ (n : Node). StandsFor old.layout old.catalog n (value_of old w)) (sym g.takes_is) a.stands;
         entries = λ commits. g.says_is ∙ ap (λ (x : Mark). marked commits old.number told x) (sym g.mark_is);
       }
@@ -235,6 +238,9 @@ module _ (old : Core) (statement : Bound) (later : List Bound) (said : Stage) (r
         means_is = λ told_so h.
             subst (λ (x : Option Reads). MeansRead old.catalog statement T x told_so) (sym reply_is)
             (subst (λ (t : Txn). MeansRead old.catalog statement t (Some (read_behind statement reading e.next_live.rows)) told_so) t_is h);
+        not_strange =
+            not_strange_at old.layout old.catalog At (code.hears_reading old.catalog r told) _ e.takes_is
+            (on_runs old.catalog At statement T (after_read Law (left_behind statement reading) e.found) answer.Begun) refl;
         no_end = refl;
         suits = λ suits. subst (λ (own : List Write). OwnSuitsStatement old.catalog statement own) (sym e.finds.own_is) suits;
       }

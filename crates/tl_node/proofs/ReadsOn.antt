@@ -184,6 +184,7 @@ module _ (old : Core) (n : Node) (sound : Heard) (told : Reply) (reading : TheRe
             so.says_is commits told_so ∙ ap (λ (x : Reads). says_read (At n.doing) so.statement (txn_in (stage_of said) so.live) (Some x) told_so) all;
         means_is = λ told_so h.
             so.means_is told_so (subst (λ (x : Reads). MeansRead old.catalog so.statement (txn_in (stage_of said) so.live) (Some x) told_so) (sym all) h);
+        not_strange = so.not_strange;
         no_end = so.no_end;
         suits = so.suits;
       }
@@ -245,6 +246,7 @@ module _ (old : Core) (n : Node) (sound : Heard) (told : Reply) (reading : TheRe
         subst (λ (x : Work). Goes old.layout old.catalog n sound told mark.Quiet old x) (sym by.w_is)
         (record {
           fits = a.fits;
+          not_strange = so.not_strange;
           stands =
               subst (λ (m : Node). StandsFor old.layout old.catalog m (value_of old (work.Runs (record { txn = by.after; stage = said; course = way.Reads (next_in reading so.live.rows) }))))
               (sym

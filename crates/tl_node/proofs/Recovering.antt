@@ -28,12 +28,12 @@ use Rattle.tl_ask.specs.Given.{shown_heard}
 use Rattle.tl_journal.specs.Memory.{is_ending, unsaid}
 use Rattle.tl_journal.specs.Node.{Doing, Inside, Node}
 use Rattle.tl_journal.specs.Says.{says_at}
-use Rattle.tl_journal.specs.Strange.{is_strange_to}
-use Rattle.tl_journal.specs.Takes.{MeansDoing}
+use Rattle.tl_journal.specs.Strange.{is_strange_to, is_stopped}
+use Rattle.tl_journal.specs.Takes.{MeansDoing, with_doing}
 use Rattle.tl_protocol.specs.Store.{Key, LogCell}
 use Rattle.tl_ask.specs.Thin.{thin}
 use Rattle.tl_recover.specs.Doing.{doing_of, lost_of}
-use Rattle.tl_recover.specs.Follows.{Awaits, Ends, GoesOn, GoesOnOrEnds, GoesOnSo, IsStrangeAlike, Turn, after as after_turn, entries, entries_of, is_awaiting}
+use Rattle.tl_recover.specs.Follows.{Awaits, Ends, GoesOn, GoesOnOrEnds, GoesOnSo, IsStrangeAlike, Turn, after as after_turn, entries, entries_of, is_awaiting, StepsNotOdd}
 use Rattle.tl_recover.specs.Heeds as heeds
 use Rattle.tl_recover.specs.Heeds.{HasMark, IsTaken, request_of}
 use Rattle.tl_recover.specs.Taken as code
@@ -54,6 +54,7 @@ use Rattle.tl_node.proofs.Leaving.{IsLeaving, left_comes}
 use Rattle.tl_node.proofs.Opening.{node_with, none_left, same_node, some_left}
 use Rattle.tl_node.proofs.Heard.{commits_shown, log_shown, manager_alike, stored_commits, stored_log, stored_record}
 use Rattle.tl_node.proofs.RecoveryMarks.{is_finished, marks_so, takes_step}
+use Rattle.tl_node.proofs.NotStrange.{kept_runs, not_strange_at}
 
 -- ---- what it hears
 
@@ -102,6 +103,16 @@ settled_same settings catalog statement (Inside t) d e f = absurd (both true ref
     both false e f = cc
 settled_same settings catalog statement now d e f = refl
 
+-- a recovery that awaits a reply has not stopped
+awaiting_runs : (gone : ℕ) (all : NodeSet) (now : Phase) → is_awaiting now ≡ true → is_stopped (doing_of gone all now) ≡ false
+awaiting_runs gone all (phase.Finding node) e = refl
+awaiting_runs gone all (phase.ReadingLog lost) e = refl
+awaiting_runs gone all (phase.Stripping lost log at loaded) e = refl
+awaiting_runs gone all (phase.Finishing lost committed loaded) e = refl
+awaiting_runs gone all (phase.EndingLost lost) e = refl
+awaiting_runs gone all phase.Over e = refl
+awaiting_runs gone all phase.Stopped e = absurd cc
+
 no_end : (gone : ℕ) (all : NodeSet) (now : Phase) → is_ending (doing_of gone all now) ≡ false
 no_end gone all (phase.Finding node) = refl
 no_end gone all (phase.ReadingLog lost) = refl
@@ -144,7 +155,7 @@ is_refused other = false
 
 -- ---- the reply
 
-module _ (goes_on : GoesOn) (awaits : Awaits) (ends : Ends) (steps : GoesOnOrEnds) (strange_alike : IsStrangeAlike)
+module _ (goes_on : GoesOn) (awaits : Awaits) (ends : Ends) (steps : GoesOnOrEnds) (strange_alike : IsStrangeAlike) (not_odd : StepsNotOdd)
     (core : Core) (gone : ℕ) (later : List Bound) (all : NodeSet) (now : Phase) (told : Reply)
     (todo_is : drop (length core.answers.items) core.statements ≡ bound.Recover gone ∷ later) (awaited : is_awaiting now ≡ true) where
   abbrev pub n : Node
@@ -181,6 +192,10 @@ module _ (goes_on : GoesOn) (awaits : Awaits) (ends : Ends) (steps : GoesOnOrEnd
   goes after m e layout_is all_is phase_is next_is = record {
     fits = subst (λ todo. FitsAll core todo (work.Recovers gone after)) (sym todo_is)
         (refl, layout_is, ap is_awaiting phase_is ∙ awaits (turn [] answer.Begun) m e);
+    not_strange =
+        not_strange_at core.layout core.catalog n sound (with_doing n next_doing) law.1
+        (kept_runs next_doing (doing_of gone all outcome.phase) law.2 (awaiting_runs gone all outcome.phase (awaits (turn [] answer.Begun) m e)))
+        (not_odd (turn [] answer.Begun) (step.Going m) e);
     stands = record {
       settings_are = refl;
       catalog_is = refl;
@@ -210,6 +225,8 @@ module _ (goes_on : GoesOn) (awaits : Awaits) (ends : Ends) (steps : GoesOnOrEnd
   leaving m e = record {
     left = refl;
     answers = refl;
+    not_strange =
+        not_strange_at core.layout core.catalog n sound _ (ends (turn [] answer.Begun) m e).1 refl (not_odd (turn [] answer.Begun) (step.Ended m) e);
     no_end = no_end gone all now;
     takes_is = λ a. (ends (turn [] a) m e).1;
     means = λ a. means_all core.layout core.catalog (bound.Recover gone) gone all now sound a;
@@ -259,6 +276,7 @@ pub record FollowsLaw : Type 0 where
   pub ends : Ends
   pub steps : GoesOnOrEnds
   pub strange_alike : IsStrangeAlike
+  pub not_odd : StepsNotOdd
 
 module _ (law : FollowsLaw) (core : Core) (gone : ℕ) (before after : Recover) (told : Reply) (step_told : Option TxnStep)
     (fits : IsFit core (work.Recovers gone before)) (heeded : IsTaken core.catalog before after told step_told) where
@@ -290,7 +308,7 @@ module _ (law : FollowsLaw) (core : Core) (gone : ℕ) (before after : Recover) 
   going_after m e = at_present core m (Ok (next.Goes (work.Recovers gone after)))
       (λ later todo_is layout_is awaited. let t : heeds.IsAfter core.layout outcome_of after.phase after.next (Some (step.Going m)) =
       subst (λ s. heeds.IsAfter core.layout outcome_of after.phase after.next s) e (taken_is layout_is) in
-      goes law.goes_on law.awaits law.ends law.steps law.strange_alike core gone later before.all before.phase told todo_is awaited
+      goes law.goes_on law.awaits law.ends law.steps law.strange_alike law.not_odd core gone later before.all before.phase told todo_is awaited
       after m (sym t.2) (heeded.layout ∙ layout_is) heeded.all t.0 t.1)
 
   pub ended_after : (new : Core) (m : Mark) (result : Result Next NoMemory) → step_told ≡ Some (step.Ended m) → Leaves core (answer.Recovered gone) new result
@@ -298,7 +316,7 @@ module _ (law : FollowsLaw) (core : Core) (gone : ℕ) (before after : Recover) 
   ended_after new m result e left = at_present new m result
       (λ later todo_is layout_is awaited. let t : heeds.IsAfter core.layout outcome_of after.phase after.next (Some (step.Ended m)) =
       subst (λ s. heeds.IsAfter core.layout outcome_of after.phase after.next s) e (taken_is layout_is) in
-      leaves law.goes_on law.awaits law.ends law.steps law.strange_alike core gone later before.all before.phase told todo_is awaited
+      leaves law.goes_on law.awaits law.ends law.steps law.strange_alike law.not_odd core gone later before.all before.phase told todo_is awaited
       new m result (sym t.2) left)
 
   pub wanting_after : (fault : NoMemory) (m : Mark) → step_told ≡ Some (step.NoMemory m)
@@ -306,13 +324,13 @@ module _ (law : FollowsLaw) (core : Core) (gone : ℕ) (before after : Recover) 
   wanting_after fault m e = at_present core m (Err fault)
       (λ later todo_is layout_is awaited. let t : heeds.IsAfter core.layout outcome_of after.phase after.next (Some (step.NoMemory m)) =
       subst (λ s. heeds.IsAfter core.layout outcome_of after.phase after.next s) e (taken_is layout_is) in
-      wants law.goes_on law.awaits law.ends law.steps law.strange_alike core gone later before.all before.phase told todo_is awaited
+      wants law.goes_on law.awaits law.ends law.steps law.strange_alike law.not_odd core gone later before.all before.phase told todo_is awaited
       fault m outcome_of.step refl t.2)
 
   pub refused_after : (s : Option TxnStep) → step_told ≡ s → is_refused s ≡ true
       → IsAfter core.layout core.catalog (node_at core (work.Recovers gone before)) told core mark.Quiet (Ok next.Strange)
   refused_after s e refused = at_present core mark.Quiet (Ok next.Strange)
-      (λ later todo_is layout_is awaited. is_strange_so law.goes_on law.awaits law.ends law.steps law.strange_alike core gone later before.all before.phase told todo_is awaited
+      (λ later todo_is layout_is awaited. is_strange_so law.goes_on law.awaits law.ends law.steps law.strange_alike law.not_odd core gone later before.all before.phase told todo_is awaited
       s (sym (same s refused (subst (λ x. heeds.IsAfter core.layout outcome_of after.phase after.next x) e (taken_is layout_is)))) refused)
     where
       same : (s : Option TxnStep) → is_refused s ≡ true → heeds.IsAfter core.layout outcome_of after.phase after.next s → s ≡ outcome_of.step

@@ -81,6 +81,7 @@ module _ (old new : Core) (n : Node) (sound : Heard) (told : Reply) (statement :
         subst (λ (x : Said). Says old.layout old.catalog n sound told mark.Quiet new w x) (sym on.said_is)
         (record {
           fits = a.fits;
+          not_strange = nexts.not_strange;
           so = λ suits. record {
             stands =
                 subst (λ (m : Node). StandsFor old.layout old.catalog m (value_of new w)) (sym (nexts.takes_is told_so))
@@ -103,6 +104,7 @@ module _ (old new : Core) (n : Node) (sound : Heard) (told : Reply) (statement :
         (subst (λ (x : Said). Says old.layout old.catalog n sound told mark.Quiet old w x) (sym on.said_is)
         (record {
           fits = a.fits;
+          not_strange = nexts.not_strange;
           so = λ suits. record {
             stands =
                 subst (λ (m : Node). StandsFor old.layout old.catalog m (value_of old w)) (sym (nexts.takes_is told_so))

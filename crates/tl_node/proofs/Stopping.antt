@@ -252,11 +252,11 @@ told_wants core new w owed told m fault fits stays e after = (has_stopped core n
 
 pub told_goes : (core new : Core) (w v : Work) (told : Reply) (m : Mark) → IsAfter core.layout core.catalog (node_at core w) told new m (Ok (next.Goes v))
     → IsToldSo (value_of core w) told (value_of new v) m rest.Going
-told_goes core new w v told m after = (after.stands, after.entries)
+told_goes core new w v told m after = (after.not_strange, after.stands, after.entries)
 
 pub told_says : (core new : Core) (w v : Work) (told : Reply) (m : Mark) (said : Said) → IsAfter core.layout core.catalog (node_at core w) told new m (Ok (next.Says v said))
     → IsToldSo (value_of core w) told (value_of new v) m (rest.Said said)
-told_says core new w v told m said after = after.so
+told_says core new w v told m said after = (after.not_strange, after.so)
 
 -- a stopped node stays so
 pub stopped_after : (core : Core) (nodes : NodeSet) (told : Reply) → IsFit core (work.Stopped nodes)

@@ -111,9 +111,10 @@ Opens core at so_far said w =
     (live : Open) (after : Core) → so_far ≡ phase.Ready live → after ≡ record core { answers = after.answers }
     → IsOpened after (drop at core.statements) (Inside (txn_in (stage_of said) live)) w
 
--- nothing is said: the parts of the node stand for the node of the law
+-- the reply is not strange, and nothing is said: the parts of the node stand for the node of the law
 pub record Goes (settings : Settings) (catalog : Catalog) (n : Node) (sound : Heard) (told : Reply) (m : Mark) (core : Core) (w : Work) : Type 0 where
   pub fits : IsFit core w
+  pub not_strange : is_strange_to settings catalog n sound ≡ false
   pub stands : StandsFor settings catalog (takes settings catalog n sound answer.Begun) (value_of core w)
   pub entries : (commits : List Commit) → says_at settings catalog commits n sound answer.Begun ≡ marked commits n.number told m
 
@@ -124,9 +125,10 @@ pub record SaysSo (settings : Settings) (catalog : Catalog) (n : Node) (sound : 
   pub entries : (commits : List Commit) → says_at settings catalog commits n sound (answer_in m said)
       ≡ marked commits n.number told m ++ said_so n.number (statement_in n.todo) m said ∷ []
 
--- it is so where the own writes suit the statement
+-- the reply is not strange, and it is so where the own writes suit the statement
 pub record Says (settings : Settings) (catalog : Catalog) (n : Node) (sound : Heard) (told : Reply) (m : Mark) (core : Core) (w : Work) (said : Said) : Type 0 where
   pub fits : IsFit core w
+  pub not_strange : is_strange_to settings catalog n sound ≡ false
   pub so : OwnSuitsNode catalog n → SaysSo settings catalog n sound told m said (value_of core w)
 
 -- memory was wanted: what would be said isn't; it never comes to that at the end of a transaction
@@ -175,9 +177,12 @@ pub record HasStopped (settings : Settings) (catalog : Catalog) (n : Node) (soun
 -- what is told of the reply where the node hears this, and the node after it
 abbrev pub IsToldAt : NodeValue → Heard → Reply → NodeValue → Mark → Rest → Type 0
 IsToldAt v sound told after m rest.Going =
-    StandsFor v.settings v.catalog (takes v.settings v.catalog v.node sound answer.Begun) after
+    (is_strange_to v.settings v.catalog v.node sound ≡ false)
+    × StandsFor v.settings v.catalog (takes v.settings v.catalog v.node sound answer.Begun) after
     × ((commits : List Commit) → says_at v.settings v.catalog commits v.node sound answer.Begun ≡ marked commits v.node.number told m)
-IsToldAt v sound told after m (rest.Said said) = OwnSuitsNode v.catalog v.node → SaysSo v.settings v.catalog v.node sound told m said after
+IsToldAt v sound told after m (rest.Said said) =
+    (is_strange_to v.settings v.catalog v.node sound ≡ false)
+    × (OwnSuitsNode v.catalog v.node → SaysSo v.settings v.catalog v.node sound told m said after)
 IsToldAt v sound told after m rest.Strange =
     HasStopped v.settings v.catalog v.node sound after × (is_strange_to v.settings v.catalog v.node sound ≡ true)
 IsToldAt v sound told after m rest.NoMemory = HasStopped v.settings v.catalog v.node sound after × Wants v.settings v.catalog v.node sound told m

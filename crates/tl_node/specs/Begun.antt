@@ -1,5 +1,5 @@
 -- A transaction has begun, and what was said in it is answered.
-use Rattle.std.specs.Prelude.{◌≡◌, ℕ, ◌+◌, true, [], ◌∷◌, ◌++◌, Option, Some, None, Result, Ok, Err, length}
+use Rattle.std.specs.Prelude.{◌≡◌, ℕ, ◌+◌, true, false, [], ◌∷◌, ◌++◌, Option, Some, None, Result, Ok, Err, length}
 use Rattle.tl_base.specs.declared.memory.NoMemory.{NoMemory}
 use Rattle.tl_descriptor.specs.Tids.{TidSet}
 use Rattle.tl_isolation.specs.declared.bound.Bound.{Bound}
@@ -13,6 +13,7 @@ use Rattle.tl_manager.specs.declared.request.ManagerReply.TheVariants as manager
 use Rattle.tl_manager.specs.declared.request.Reply.{Reply}
 use Rattle.tl_manager.specs.declared.request.Reply.TheVariants as reply
 use Rattle.tl_journal.specs.Ask.{Heard, Told}
+use Rattle.tl_journal.specs.Strange.{is_odd_begin}
 use Rattle.tl_txn.specs.Taken.{opened}
 use Rattle.tl_txn.specs.declared.phase.Phase.{Phase}
 use Rattle.tl_txn.specs.declared.phase.Phase.TheVariants as phase
@@ -26,13 +27,14 @@ use Rattle.tl_node.specs.declared.work.Stage.{Stage}
 use Rattle.tl_node.specs.declared.work.Stage.TheVariants as stage
 use Rattle.tl_node.specs.declared.work.Work.{Work}
 
--- the reply gave the transaction its number and its snapshot, and told the low-water mark
+-- the reply gave the transaction its number and its snapshot, neither of them odd, and told the low-water mark
 pub record HasBegun (txn : Txn) (told : Reply) : Type 0 where
   pub tid : ℕ
   pub snapshot : TidSet
   pub floor : TidSet
   pub told_is : told ≡ reply.Manager (manager.Began tid snapshot floor)
   pub phase_is : txn.phase ≡ phase.Ready (opened tid snapshot)
+  pub not_odd : is_odd_begin tid snapshot ≡ false
 
 abbrev pub began_mark : Reply → Mark
 began_mark (reply.Manager (manager.Began tid snapshot floor)) = mark.Began tid

@@ -39,6 +39,7 @@ use Rattle.tl_node.specs.declared.work.Reading.{Reading as TheReading}
 use Rattle.tl_node.specs.declared.work.Stage.{Stage}
 use Rattle.tl_node.specs.declared.work.Work.{Work}
 use Rattle.tl_node.specs.declared.work.Work.TheVariants as work
+use Rattle.tl_journal.specs.Strange.{is_strange_to}
 
 -- what is left behind the read in hand, which found these rows
 abbrev pub read_behind : Bound → TheReading → List (List Value) → Reads
@@ -63,6 +64,7 @@ pub record IsReadSo (core : Core) (n : Node) (sound : Heard) (reading : TheReadi
       ≡ says_read (at_todo core (statement ∷ later) n.doing) statement (txn_in (stage_of said) live) (Some (read_behind statement reading live.rows)) told
   pub means_is : (told : Answer) → MeansRead core.catalog statement (txn_in (stage_of said) live) (Some (read_behind statement reading live.rows)) told
       → MayMean core.layout core.catalog n sound told
+  pub not_strange : is_strange_to core.layout core.catalog n sound ≡ false
   pub no_end : is_ending n.doing ≡ false
   pub suits : OwnSuitsNode core.catalog n → OwnSuitsStatement core.catalog statement live.own
 
@@ -103,6 +105,7 @@ pub record IdlesNext (core : Core) (n : Node) (sound : Heard) (statement : Bound
   pub says_is : (commits : List Commit) (floor : TidSet) (told : Answer)
       → says_at core.layout core.catalog commits n sound told ≡ says_idle (at_todo core (statement ∷ later) (Inside t)) statement t (Told (manager.FloorIs floor)) told
   pub means_is : (told : Answer) → MeansIdle core.catalog statement t told → MayMean core.layout core.catalog n sound told
+  pub not_strange : is_strange_to core.layout core.catalog n sound ≡ false
   pub no_end : is_ending n.doing ≡ false
   pub suits : OwnSuitsNode core.catalog n → OwnSuitsStatement core.catalog statement t.own
 

@@ -30,6 +30,7 @@ use Rattle.tl_node.specs.declared.work.Next.TheVariants as next
 use Rattle.tl_node.specs.declared.work.Stage.{Stage}
 use Rattle.tl_node.specs.declared.work.Stage.TheVariants as stage
 use Rattle.tl_node.specs.declared.work.Work.{Work}
+use Rattle.tl_journal.specs.Strange.{is_strange_to}
 
 -- by the law this statement is said next, in this transaction, by these rows of its tables
 pub record SaysNext (core : Core) (n : Node) (sound : Heard) (statement : Bound) (later : List Bound) (t : Txn) (tables : List (List (List Value))) : Type 0 where
@@ -40,6 +41,7 @@ pub record SaysNext (core : Core) (n : Node) (sound : Heard) (statement : Bound)
   pub says_is : (commits : List Commit) (told : Answer)
       → says_at core.layout core.catalog commits n sound told ≡ says_in t.stage core.number (length core.answers.items + 1) statement told ∷ []
   pub means_is : (told : Answer) → Means core.catalog statement t.own tables told → MayMean core.layout core.catalog n sound told
+  pub not_strange : is_strange_to core.layout core.catalog n sound ≡ false
   pub no_end : is_ending n.doing ≡ false
   pub suits : OwnSuitsNode core.catalog n → OwnSuitsStatement core.catalog statement t.own
 

@@ -13,6 +13,7 @@ returns-in-Some-Going-clause-after c =
       ends = c.recoveries_follow_the_node.ensures.ends;
       steps = c.recoveries_follow_the_node.ensures.steps;
       strange_alike = c.recoveries_follow_the_node.ensures.strange;
+      not_odd = c.recoveries_follow_the_node.ensures.not_odd;
     } in
     going_after law c.args.core.now c.args.gone c.args.recover c.heed.new.self c.args.reply.now (Some (step.Going c.in-Some-Going.mark)) c.requires
     (rw c.in-Some-Going.field-0-is at c.in-Some-Going.ensures) c.in-Some-Going.mark refl
@@ -25,6 +26,7 @@ returns-in-Some-Ended-clause-after c =
       ends = c.recoveries_follow_the_node.ensures.ends;
       steps = c.recoveries_follow_the_node.ensures.steps;
       strange_alike = c.recoveries_follow_the_node.ensures.strange;
+      not_odd = c.recoveries_follow_the_node.ensures.not_odd;
     } in
     ended_after law c.args.core.now c.args.gone c.args.recover c.heed.new.self c.args.reply.now (Some (step.Ended c.in-Some-Ended.mark)) c.requires
     (rw c.in-Some-Ended.field-0-is at c.in-Some-Ended.ensures) c.answer_and_leave.new.core c.in-Some-Ended.mark c.answer_and_leave.result refl c.answer_and_leave.ensures
@@ -41,6 +43,7 @@ returns-in-Some-NoMemory-clause-after c =
       ends = c.recoveries_follow_the_node.ensures.ends;
       steps = c.recoveries_follow_the_node.ensures.steps;
       strange_alike = c.recoveries_follow_the_node.ensures.strange;
+      not_odd = c.recoveries_follow_the_node.ensures.not_odd;
     } in
     wanting_after law c.args.core.now c.args.gone c.args.recover c.heed.new.self c.args.reply.now (Some (step.NoMemory c.in-Some-NoMemory.mark)) c.requires
     (rw c.in-Some-NoMemory.field-0-is at c.in-Some-NoMemory.ensures) _ c.in-Some-NoMemory.mark refl
@@ -53,6 +56,7 @@ returns-in-Some-Ready-clause-after c =
       ends = c.recoveries_follow_the_node.ensures.ends;
       steps = c.recoveries_follow_the_node.ensures.steps;
       strange_alike = c.recoveries_follow_the_node.ensures.strange;
+      not_odd = c.recoveries_follow_the_node.ensures.not_odd;
     } in
     refused_after law c.args.core.now c.args.gone c.args.recover c.heed.new.self c.args.reply.now (Some c.in-Some-Ready.field-0) c.requires
     c.in-Some-Ready.ensures (Some c.in-Some-Ready.field-0) refl (rw c.in-Some-Ready.field-0-is refl)
@@ -65,6 +69,7 @@ returns-in-Some-Leaf-clause-after c =
       ends = c.recoveries_follow_the_node.ensures.ends;
       steps = c.recoveries_follow_the_node.ensures.steps;
       strange_alike = c.recoveries_follow_the_node.ensures.strange;
+      not_odd = c.recoveries_follow_the_node.ensures.not_odd;
     } in
     refused_after law c.args.core.now c.args.gone c.args.recover c.heed.new.self c.args.reply.now (Some c.in-Some-Leaf.field-0) c.requires
     c.in-Some-Leaf.ensures (Some c.in-Some-Leaf.field-0) refl (rw c.in-Some-Leaf.field-0-is refl)
@@ -77,5 +82,6 @@ returns-in-None-clause-after c =
       ends = c.recoveries_follow_the_node.ensures.ends;
       steps = c.recoveries_follow_the_node.ensures.steps;
       strange_alike = c.recoveries_follow_the_node.ensures.strange;
+      not_odd = c.recoveries_follow_the_node.ensures.not_odd;
     } in
     refused_after law c.args.core.now c.args.gone c.args.recover c.heed.new.self c.args.reply.now None c.requires c.in-None.ensures None refl refl
