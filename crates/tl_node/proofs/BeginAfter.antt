@@ -24,7 +24,7 @@ use Rattle.tl_journal.specs.Bytes.{home_of}
 use Rattle.tl_journal.specs.Memory.{is_ending, unsaid}
 use Rattle.tl_journal.specs.Node.{Doing, Noted, Node}
 use Rattle.tl_journal.specs.Says.{says_doing}
-use Rattle.tl_journal.specs.Strange.{is_strange_to, is_odd_for, is_stopped}
+use Rattle.tl_journal.specs.Strange.{is_odd_for, is_stopped, is_strange_to}
 use Rattle.tl_journal.specs.Takes.{takes_doing}
 use Rattle.tl_ask.specs.Given.{shown_heard}
 use Rattle.tl_ask.specs.Thin.{thin}

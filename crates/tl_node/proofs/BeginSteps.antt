@@ -19,7 +19,7 @@ use Rattle.tl_journal.specs.Ask.{Heard, Commits, Numbers, Told}
 use Rattle.tl_journal.specs.Asks.{Course, ToBegin, asks_doing, course_outside}
 use Rattle.tl_journal.specs.Node.{Outside, Noted, Drawing, Bringing, Node}
 use Rattle.tl_journal.specs.Says as says
-use Rattle.tl_journal.specs.Strange.{is_odd_for, is_stopped, is_odd_begin}
+use Rattle.tl_journal.specs.Strange.{is_odd_begin, is_odd_for, is_stopped}
 use Rattle.tl_journal.specs.Takes as law
 use Rattle.tl_journal.specs.Takes.{takes_doing, with_doing}
 use Rattle.tl_txn.specs.Doing.{doing_of}

@@ -18,6 +18,7 @@ use Rattle.tl_journal.specs.Ask.{Told}
 use Rattle.tl_journal.specs.Memory.{unsaid}
 use Rattle.tl_journal.specs.Node.{Noted, Inside, Node}
 use Rattle.tl_journal.specs.Says.{says_at}
+use Rattle.tl_journal.specs.Strange.{is_odd_begin}
 use Rattle.tl_journal.specs.Takes.{takes}
 use Rattle.tl_node.specs.Hears.{manager_says}
 use Rattle.tl_txn.specs.Doing.{txn_in}
@@ -36,7 +37,6 @@ use Rattle.tl_node.specs.declared.work.Next.TheVariants as next
 use Rattle.tl_node.specs.declared.work.Stage.TheVariants as stage
 use Rattle.tl_node.specs.declared.work.Work.{Work}
 use Rattle.tl_node.proofs.Arrives.{Arrives, answered_at, answers_on, arrives_at}
-use Rattle.tl_journal.specs.Strange.{is_odd_begin}
 use Rattle.tl_node.proofs.NotStrange.{not_strange_at}
 
 -- ---- the node of the law, once its present statement is in hand

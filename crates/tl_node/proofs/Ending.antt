@@ -33,14 +33,14 @@ use Rattle.tl_journal.specs.Memory.{is_ending, unsaid}
 use Rattle.tl_journal.specs.Node.{Doing, Outside, Inside, Node}
 use Rattle.tl_journal.specs.Node as law
 use Rattle.tl_journal.specs.Says.{says_at}
-use Rattle.tl_journal.specs.Strange.{is_strange_to, is_stopped}
+use Rattle.tl_journal.specs.Strange.{is_stopped, is_strange_to}
 use Rattle.tl_journal.specs.Takes.{takes_doing, with_doing}
 use Rattle.tl_ask.specs.Thin.{loaded_if, thin}
 use Rattle.tl_txn.specs.After.{IsKnown, IsTaken, IsTold, Stops, asked_next, does}
 use Rattle.tl_txn.specs.Attempt.{txn_of}
 use Rattle.tl_txn.specs.Calls.{conflict_in}
 use Rattle.tl_txn.specs.Doing.{doing_of, removing_of, storing_of, txn_in}
-use Rattle.tl_txn.specs.Follows.{CommitsNothing, GivesUp, Goes, GoesOn, HasInHand, HearsCommits, KeepsSo, MayHear, StopsSo, Suits, TellsSo, StepsNotOdd}
+use Rattle.tl_txn.specs.Follows.{CommitsNothing, GivesUp, Goes, GoesOn, HasInHand, HearsCommits, KeepsSo, MayHear, StepsNotOdd, StopsSo, Suits, TellsSo}
 use Rattle.tl_txn.specs.Hears as awaited
 use Rattle.tl_txn.specs.Marks.{entries_of}
 use Rattle.tl_txn.specs.Run.{IsSameRun}

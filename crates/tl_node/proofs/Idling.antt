@@ -35,8 +35,10 @@ use Rattle.tl_journal.specs.Node.{Doing, Inside, Node, Outside}
 use Rattle.tl_journal.specs.Reads as law
 use Rattle.tl_journal.specs.Reads.{all_reads, begin_reads, edit_reads, reads_of, tables_read}
 use Rattle.tl_journal.specs.Says.{says_at, says_idle, says_inside}
+use Rattle.tl_journal.specs.Strange.{is_strange_to}
 use Rattle.tl_journal.specs.Takes.{MayMean, MeansInside, first_rows, tables_seen, takes, takes_inside, with_doing}
 use Rattle.tl_journal.specs.Takes as law_takes
+use Rattle.tl_journal.proofs.StrangeStops.{idles_runs}
 use Rattle.tl_txn.specs.Doing.{txn_in}
 use Rattle.tl_txn.specs.declared.phase.Open.{Open}
 use Rattle.tl_txn.specs.declared.phase.Phase.{Phase}
@@ -58,8 +60,6 @@ use Rattle.tl_node.specs.declared.work.Work.{Work}
 use Rattle.tl_node.proofs.Arrives.{Arrives, answered_at, answers_on}
 use Rattle.tl_node.proofs.Found.{first_left}
 use Rattle.tl_node.proofs.Saying.{entry_is}
-use Rattle.tl_journal.specs.Strange.{is_strange_to}
-use Rattle.tl_journal.proofs.StrangeStops.{idles_runs}
 use Rattle.tl_node.proofs.NotStrange.{not_strange_at}
 
 -- the law says the statement, once its manager's low-water mark is known

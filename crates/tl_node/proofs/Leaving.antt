@@ -15,6 +15,7 @@ use Rattle.tl_journal.specs.Ask.{Heard}
 use Rattle.tl_journal.specs.Memory.{is_ending, unsaid}
 use Rattle.tl_journal.specs.Node.{Node}
 use Rattle.tl_journal.specs.Says.{says_at}
+use Rattle.tl_journal.specs.Strange.{is_strange_to}
 use Rattle.tl_journal.specs.Takes.{MayMean, takes}
 use Rattle.tl_node.specs.After.{ComesTo, IsHeld, Says, Stays, Wants, statement_in}
 use Rattle.tl_node.specs.Leaves.{Learns, Leaves, LeavesSo, learns}
@@ -25,7 +26,6 @@ use Rattle.tl_node.specs.declared.work.Next.TheVariants as next
 use Rattle.tl_node.specs.declared.work.Outside.{Outside as TheOutside}
 use Rattle.tl_node.specs.declared.work.Work.TheVariants as work
 use Rattle.tl_node.proofs.Opening.{left_fits, left_stands, node_left}
-use Rattle.tl_journal.specs.Strange.{is_strange_to}
 
 -- what is said of the present statement of a node with so many answers
 abbrev pub says_it : ℕ → Answer → Said

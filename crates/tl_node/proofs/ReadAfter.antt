@@ -30,6 +30,7 @@ use Rattle.tl_journal.specs.Reads.{Reads, after_read, next_table, read_of}
 use Rattle.tl_journal.specs.Says.{says_read}
 use Rattle.tl_journal.specs.Strange.{is_odd_for, is_strange_to, is_stopped}
 use Rattle.tl_journal.specs.Takes.{MeansRead, after_reply, goes_on}
+use Rattle.tl_journal.proofs.StrangeStops.{on_runs}
 use Rattle.tl_txn.specs.After.{IsKnown, IsTaken, IsTold, asked_next}
 use Rattle.tl_txn.specs.Doing.{txn_in}
 use Rattle.tl_txn.specs.Follows.{ReadsNeverEnd, StepsSo, law_read}
@@ -61,7 +62,6 @@ use Rattle.tl_node.specs.declared.work.Work.{Work}
 use Rattle.tl_node.specs.declared.work.Work.TheVariants as work
 use Rattle.tl_node.proofs.Arrives.{Arrives, arrives_at}
 use Rattle.tl_node.proofs.BeginAfter.{asked_same, running_present}
-use Rattle.tl_journal.proofs.StrangeStops.{on_runs}
 use Rattle.tl_node.proofs.NotStrange.{not_strange_at}
 
 -- ---- the reads

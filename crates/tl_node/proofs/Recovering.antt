@@ -28,12 +28,12 @@ use Rattle.tl_ask.specs.Given.{shown_heard}
 use Rattle.tl_journal.specs.Memory.{is_ending, unsaid}
 use Rattle.tl_journal.specs.Node.{Doing, Inside, Node}
 use Rattle.tl_journal.specs.Says.{says_at}
-use Rattle.tl_journal.specs.Strange.{is_strange_to, is_stopped}
+use Rattle.tl_journal.specs.Strange.{is_stopped, is_strange_to}
 use Rattle.tl_journal.specs.Takes.{MeansDoing, with_doing}
 use Rattle.tl_protocol.specs.Store.{Key, LogCell}
 use Rattle.tl_ask.specs.Thin.{thin}
 use Rattle.tl_recover.specs.Doing.{doing_of, lost_of}
-use Rattle.tl_recover.specs.Follows.{Awaits, Ends, GoesOn, GoesOnOrEnds, GoesOnSo, IsStrangeAlike, Turn, after as after_turn, entries, entries_of, is_awaiting, StepsNotOdd}
+use Rattle.tl_recover.specs.Follows.{Awaits, Ends, GoesOn, GoesOnOrEnds, GoesOnSo, IsStrangeAlike, StepsNotOdd, Turn, after as after_turn, entries, entries_of, is_awaiting}
 use Rattle.tl_recover.specs.Heeds as heeds
 use Rattle.tl_recover.specs.Heeds.{HasMark, IsTaken, request_of}
 use Rattle.tl_recover.specs.Taken as code

@@ -19,6 +19,7 @@ use Rattle.tl_journal.specs.Memory.{is_ending}
 use Rattle.tl_journal.specs.Node.{Inside, Node}
 use Rattle.tl_journal.specs.Reads.{Reads, after_read, all_reads, begin_reads, next_table, read_of, reads_of}
 use Rattle.tl_journal.specs.Says.{says_at, says_idle, says_read}
+use Rattle.tl_journal.specs.Strange.{is_strange_to}
 use Rattle.tl_journal.specs.Takes.{MayMean, MeansIdle, MeansRead, goes_on, idles, takes}
 use Rattle.tl_txn.specs.Doing.{txn_in}
 use Rattle.tl_txn.specs.declared.phase.Open.{Open}
@@ -39,7 +40,6 @@ use Rattle.tl_node.specs.declared.work.Reading.{Reading as TheReading}
 use Rattle.tl_node.specs.declared.work.Stage.{Stage}
 use Rattle.tl_node.specs.declared.work.Work.{Work}
 use Rattle.tl_node.specs.declared.work.Work.TheVariants as work
-use Rattle.tl_journal.specs.Strange.{is_strange_to}
 
 -- what is left behind the read in hand, which found these rows
 abbrev pub read_behind : Bound → TheReading → List (List Value) → Reads

@@ -16,6 +16,7 @@ use Rattle.tl_journal.specs.Ask.{Heard}
 use Rattle.tl_journal.specs.Memory.{is_ending}
 use Rattle.tl_journal.specs.Node.{Outside, Node}
 use Rattle.tl_journal.specs.Says.{says_at}
+use Rattle.tl_journal.specs.Strange.{is_strange_to}
 use Rattle.tl_journal.specs.Takes.{MayMean, Means, first_rows, own_said, said, takes, tables_seen}
 use Rattle.tl_txn.specs.Calls.{own_in, with_own}
 use Rattle.tl_txn.specs.declared.phase.Phase.{Phase}
@@ -30,7 +31,6 @@ use Rattle.tl_node.specs.declared.work.Next.TheVariants as next
 use Rattle.tl_node.specs.declared.work.Stage.{Stage}
 use Rattle.tl_node.specs.declared.work.Stage.TheVariants as stage
 use Rattle.tl_node.specs.declared.work.Work.{Work}
-use Rattle.tl_journal.specs.Strange.{is_strange_to}
 
 -- by the law this statement is said next, in this transaction, by these rows of its tables
 pub record SaysNext (core : Core) (n : Node) (sound : Heard) (statement : Bound) (later : List Bound) (t : Txn) (tables : List (List (List Value))) : Type 0 where

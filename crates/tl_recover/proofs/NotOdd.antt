@@ -1,6 +1,6 @@
 -- A recovery makes no step at an odd reply.
 use Rattle.std.proofs.Common.{◌≡◌, ℕ, Bool, true, false, Option, Some, None, refl, subst}
-use Rattle.std.specs.Prelude.{◌^◌, nat_lt, slice_get}
+use Rattle.std.specs.Prelude.{◌^◌, nat_lt}
 use Rattle.std.specs.List.{list_any}
 use Rattle.tl_base.specs.declared.node.NodeSet.{NodeSet}
 use Rattle.tl_base.specs.declared.place.Settings.{Settings}
