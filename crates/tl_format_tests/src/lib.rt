@@ -3,11 +3,7 @@
 #![tactic(auto)]
 
 #[cfg(test)]
-mod base;
-#[cfg(test)]
 mod cells;
-#[cfg(test)]
-mod codec;
 #[cfg(test)]
 mod collect;
 #[cfg(test)]

@@ -2,10 +2,10 @@ use crate::fixtures::{point, point_table};
 use std::alloc::Global;
 use std::process::Abort;
 use std::test::Fail;
-use tl_base::{Bytes, Duplicate, Items, NoMemory, Settings, Text};
+use tl_base::{Bytes, NoMemory, Text};
 use tl_schema::{
-    Access, Catalog, OpeningRow, RowFault, Setup, Table, breaks_not_null, entries_in_order,
-    entries_of, is_long, key_values, record_key, row_bytes, row_of, rows_differ, store_key,
+    RowFault, Table, breaks_not_null, entries_of, is_long, key_values, record_key, row_bytes,
+    row_of, store_key,
 };
 use tl_values::{Row, Value};
 
@@ -76,27 +76,6 @@ fn records_have_these_keys(rt: HostRuntime) -> Result<(), Fail> {
     Ok(())
 }
 
-fn point_setup(alloc: Global) -> Result<Setup, Fail> {
-    let mut tables = Items::new(alloc);
-    tables.push(point_table(alloc)?)?;
-    let mut rows = Items::new(alloc);
-    let row = point(alloc, 1, 10)?;
-    rows.push(OpeningRow { table: 0, row })?;
-    let settings = Settings {
-        shards: 1,
-        managers: 1,
-        fan: 4,
-        budget: 100,
-        threads: false,
-    };
-    let catalog = Catalog { tables };
-    Ok(Setup {
-        catalog,
-        rows,
-        settings,
-    })
-}
-
 // A row of one text of so many letters, which is its key, is above a limit.
 fn is_long_text(alloc: Global, letters: usize) -> Result<bool, Fail> {
     let text = String::from_utf8(vec![in alloc; b'a'; letters]?)?;
@@ -118,18 +97,5 @@ fn rows_have_limits(rt: HostRuntime) -> Result<(), Fail> {
     assert!(rt; is_long_text(alloc, 253)?);
     assert!(rt; !lacks(alloc, &point(alloc, 1, 10)?)?);
     assert!(rt; lacks(alloc, &mixed(alloc)?)?);
-    Ok(())
-}
-
-fn copied_rows(alloc: Global) -> Result<usize, Fail> {
-    Ok(point_setup(alloc)?.copy()?.rows.len())
-}
-
-#[test]
-fn what_stands_in_a_setup_is_copied(rt: HostRuntime) -> Result<(), Fail> {
-    rows_differ();
-    entries_in_order();
-    assert_eq!(rt; copied_rows(rt.alloc())?, 1);
-    assert!(rt; matches!(Access::Whole.copy()?, Access::Whole));
     Ok(())
 }

@@ -1,10 +1,9 @@
 use std::alloc::Global;
 use std::process::Abort;
 use std::test::Fail;
-use tl_base::{Duplicate, NoMemory, Text};
+use tl_base::{NoMemory, Text};
 use tl_values::{
-    Comparison, KeyFault, Row, Truth, Value, compare, copy_row, decode_key, encode_key, key_order,
-    keys_differ, order, prove_value, prove_values, rows_in_order, values_in_order,
+    Comparison, KeyFault, Row, Truth, Value, compare, copy_row, decode_key, encode_key, order,
 };
 
 /// A value that costs nothing to copy.
@@ -103,17 +102,4 @@ fn values_are_compared(rt: HostRuntime) {
     for (value, by, truth) in &cases {
         assert_eq!(rt; compare(value, *by, &Value::Int(1)), *truth);
     }
-}
-
-#[test]
-fn laws_cost_nothing(rt: HostRuntime) -> Result<(), Fail> {
-    let value = Value::Int(7).copy()?;
-    assert!(rt; matches!(value, Value::Int(7)));
-    prove_value(&value);
-    prove_values(&[]);
-    key_order();
-    keys_differ();
-    values_in_order();
-    rows_in_order();
-    Ok(())
 }

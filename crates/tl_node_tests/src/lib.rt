@@ -9,10 +9,6 @@ mod ask;
 #[cfg(test)]
 mod places;
 #[cfg(test)]
-mod recover;
-#[cfg(test)]
 mod render;
 #[cfg(test)]
 mod tables;
-#[cfg(test)]
-mod txn;
