@@ -4,6 +4,8 @@ use Rattle.std.specs.List.{AllByRecursion, list_any}
 use Rattle.std.proofs.lemmas.Cmp.{eq_by_cmp_equiv}
 use Rattle.std.proofs.lemmas.List.{map-append}
 use Rattle.std.specs.Cmp.{IsEquivalence}
+use Rattle.std.proofs.lemmas.Bool.{not-false, or_parts}
+use Rattle.tl_lemmas.proofs.Lists.{weaker}
 use Rattle.tl_values.specs.declared.value.Value.{Value}
 use Rattle.tl_values.proofs.ValueOrder.{row_total}
 use Rattle.tl_values.specs.Value.{values_at}
@@ -82,20 +84,12 @@ any_filter p q h (x ∷ xs) = either (q x)
     (λ t. ap (list_any p) (picked (q x) _ _ t) ∙ ap (λ b. p x || b) (any_filter p q h xs))
     (λ f. ap (list_any p) (passed_by (q x) _ _ f) ∙ any_filter p q h xs ∙ ap (λ b. b || list_any p xs) (sym (h x f)))
 
-not_false : (b : Bool) → not b ≡ false → b ≡ true
-not_false true e = refl
-not_false false e = absurd cc
-
 any_distinct : (x : List Value) (ys : List (List Value)) → list_any (λ y. same_row y x) (distinct same_row ys) ≡ list_any (λ y. same_row y x) ys
 any_distinct x [] = refl
 any_distinct x (y ∷ ys) = either (same_row y x)
     (λ t. ap (λ b. b || list_any (λ z. same_row z x) (filter (λ z. not (same_row y z)) (distinct same_row ys))) t ∙ ap (λ b. b || list_any (λ z. same_row z x) ys) (sym t))
     (λ f. ap (λ b. same_row y x || b)
-    (any_filter (λ z. same_row z x) (λ z. not (same_row y z)) (λ z e. sym (same_laws.congr y z x (not_false (same_row y z) e)) ∙ f) (distinct same_row ys) ∙ any_distinct x ys))
-
-or_false : (a b : Bool) → (a || b) ≡ false → (a ≡ false) × (b ≡ false)
-or_false true b e = absurd cc
-or_false false b e = (refl, e)
+    (any_filter (λ z. same_row z x) (λ z. not (same_row y z)) (λ z e. sym (same_laws.congr y z x (not-false (same_row y z) e)) ∙ f) (distinct same_row ys) ∙ any_distinct x ys))
 
 or_true : (a b : Bool) → a ≡ false → (a || b) ≡ true → b ≡ true
 or_true true b f e = absurd cc
@@ -103,11 +97,7 @@ or_true false b f e = e
 
 none_from_any : {A : Type 0} (p : A → Bool) (xs : List A) → list_any p xs ≡ false → AllByRecursion (λ x. p x ≡ false) xs
 none_from_any p [] e = tt
-none_from_any p (x ∷ xs) e = let o = or_false (p x) (list_any p xs) e in (o.0, none_from_any p xs o.1)
-
-all_so : {A : Type 0} (P Q : A → Type 0) → ((x : A) → P x → Q x) → (xs : List A) → AllByRecursion P xs → AllByRecursion Q xs
-all_so P Q h [] all = tt
-all_so P Q h (x ∷ xs) all = (h x all.0, all_so P Q h xs all.1)
+none_from_any p (x ∷ xs) e = let o = or_parts (p x) (list_any p xs) e in (o.0, none_from_any p xs o.1)
 
 -- ---- the groups, with one row more
 
@@ -143,7 +133,7 @@ grown places rows row (k ∷ ks) d e =
     (λ t. picked (same_row k x) _ _ t
     ∙ ap (λ (g : Group). g ∷ map (of_key places rows) ks) (key_more places rows row k t)
     ∙ ap (λ (gs : List Group). of_key places (rows ++ row ∷ []) k ∷ gs)
-    (keys_stay places rows row ks (all_so (λ y. same_row k y ≡ false) (λ y. same_row y x ≡ false) (λ y f. same_laws.symm y x ∙ sym (same_laws.congr k x y t) ∙ f) ks d.0)))
+    (keys_stay places rows row ks (weaker (λ y. same_row k y ≡ false) (λ y. same_row y x ≡ false) (λ y f. same_laws.symm y x ∙ sym (same_laws.congr k x y t) ∙ f) ks d.0)))
     (λ f. passed_by (same_row k x) _ _ f
     ∙ ap (λ (g : Group). g ∷ added places row (map (of_key places rows) ks)) (key_stays places rows row k f)
     ∙ ap (λ (gs : List Group). of_key places (rows ++ row ∷ []) k ∷ gs) (grown places rows row ks d.1 (or_true (same_row k x) _ f e)))
@@ -157,7 +147,7 @@ none_of : (places : List ℕ) (x : List Value) (rows : List (List Value)) → li
     filter (λ row. same_row x (values_at places row)) rows ≡ []
 none_of places x [] e = refl
 none_of places x (row ∷ rows) e =
-    let o = or_false (same_row (values_at places row) x) (list_any (λ y. same_row y x) (map (values_at places) rows)) e in
+    let o = or_parts (same_row (values_at places row) x) (list_any (λ y. same_row y x) (map (values_at places) rows)) e in
     passed_by (same_row x (values_at places row)) _ _ (same_laws.symm x (values_at places row) ∙ o.0) ∙ none_of places x rows o.1
 
 first_of_key : (places : List ℕ) (rows : List (List Value)) (row : List Value) → list_any (λ y. same_row y (values_at places row)) (map (values_at places) rows) ≡ false →

@@ -1,12 +1,12 @@
-pub mod Aggregates
+mod Aggregates
 pub mod Chains
-pub mod Determined
+mod Determined
 pub mod Each
-pub mod Groups
-pub mod Growing
-pub mod LineOrder
-pub mod LinesOn
-pub mod Places
+mod Groups
+mod Growing
+mod LineOrder
+mod LinesOn
+mod Places
 pub mod Reorders
-pub mod Shuffles
-pub mod Truths
+mod Shuffles
+mod Truths

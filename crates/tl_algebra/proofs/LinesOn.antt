@@ -2,6 +2,7 @@
 use Rattle.std.proofs.Common.{◌≡◌, ℕ, ◌+◌, ◌<◌, Option, Some, List, [], ◌∷◌, ◌++◌, length, get_or, drop, map, ap, sym, subst, ◌∙◌, append_assoc}
 use Rattle.std.specs.List.{flat_map}
 use Rattle.std.proofs.lemmas.List.{drop_more}
+use Rattle.tl_lemmas.proofs.Lists.{drop_read}
 use Rattle.tl_values.specs.declared.value.Value.{Value}
 use Rattle.tl_algebra.specs.declared.expression.Expression.{Expression}
 use Rattle.tl_algebra.specs.declared.expression.Step.{Step}
@@ -11,9 +12,6 @@ use Rattle.tl_algebra.specs.Value.{Fails, chained, stepped, value_of}
 use Rattle.tl_algebra.specs.Steps.{step_value}
 use Rattle.tl_algebra.proofs.Chains.{chained_fault}
 use Rattle.tl_algebra.proofs.Each.{following, following_fault, following_one}
-
-drop_read : {X : Type 0} (xs : List X) (i : ℕ) (x : X) → i < length xs → x ≡ get_or xs i x → drop i xs ≡ x ∷ drop (i + 1) xs
-drop_read xs i x h e = drop_more xs i x h ∙ ap (λ (y : _). y ∷ drop (i + 1) xs) (sym e)
 
 pub flat_next : {X A : Type 0} (f : X → List A) (done : List A) (xs : List X) (i : ℕ) (x : X) → i < length xs → x ≡ get_or xs i x →
     (done ++ f x) ++ flat_map f (drop (i + 1) xs) ≡ done ++ flat_map f (drop i xs)

@@ -5,6 +5,7 @@ use Rattle.std.specs.FinMap as finmap
 use Rattle.std.specs.FinMap.Entries.{find}
 use Rattle.std.specs.List.{AllByRecursion}
 use Rattle.std.specs.Ordering.{is_eq}
+use Rattle.tl_lemmas.proofs.Lists.{all_map}
 use Rattle.tl_values.specs.declared.value.Value.{Value}
 use Rattle.tl_schema.specs.declared.catalog.Catalog.{Catalog}
 use Rattle.tl_schema.specs.declared.catalog.Table.{Table}
@@ -20,14 +21,13 @@ use Rattle.tl_write.specs.Tables.{Tables, is_in, laid_over, laid_rows, laid_writ
 use Rattle.tl_write.proofs.Parts.{rows_suffice}
 use Rattle.tl_isolation.specs.Meaning.{change_of}
 use Rattle.tl_isolation.specs.Tables.{table_of}
-use Rattle.tl_isolation.proofs.Lookups.{all_map}
 use Rattle.tl_protocol.specs.Store.{Key, over, same_key}
 use Rattle.tl_protocol.proofs.Laid.{get_laid}
 use Rattle.tl_journal.specs.Takes.{view_changed}
-use Rattle.tl_journal.proofs.KeyOrder.{tie}
 use Rattle.tl_journal.proofs.Records.{each_record}
 use Rattle.tl_answer.specs.Own.{OwnSuits, StandsUnderKey}
 use Rattle.tl_answer.proofs.Laid.{get_both, laid, row_in, rows_laid, viewed}
+use Rattle.tl_write.proofs.Keys.{key_eq}
 
 abbrev Row : Type 0
 Row = List Value
@@ -54,7 +54,7 @@ module _ (number : ℕ) (table : Table) where
   write_keyed tables w keyed own k row has i = one (same_key w.key k) refl (sym (get_laid tables (w ∷ []) k) ∙ has)
     where
       one : (b : Bool) → same_key w.key k ≡ b → over (cond b (Some w.row) None) (finmap.get tables k) ≡ Some row → k ≡ record_key number table row
-      one true e h = sym (tie w.key k e) ∙ own row (ap (is_in number) (tie w.key k e) ∙ i) h
+      one true e h = sym (key_eq w.key k e) ∙ own row (ap (is_in number) (key_eq w.key k e) ∙ i) h
       one false e h = keyed k row h i
 
   writes_keyed : (tables : Tables) (ws : List Write) → AreKeyed tables → AllByRecursion (StandsUnderKey number table) ws → AreKeyed (laid_over tables ws)

@@ -2,6 +2,7 @@
 use Rattle.std.proofs.Common.{◌≡◌, ℕ, true, List, ◌∷◌, Option, Some, sym, ap, subst, ◌∙◌}
 use Rattle.std.specs.Prelude.{◌==◌}
 use Rattle.std.proofs.lemmas.Bool.{and_parts, eqb-true}
+use Rattle.tl_lemmas.proofs.Lists.{weaker}
 use Rattle.tl_values.specs.declared.value.Value.{Value}
 use Rattle.tl_values.specs.Key.{key_bytes}
 use Rattle.tl_schema.specs.declared.catalog.Catalog.{Catalog}
@@ -11,7 +12,6 @@ use Rattle.tl_write.specs.declared.write.Write.{Write}
 use Rattle.tl_write.specs.Change.{number_of}
 use Rattle.tl_write.specs.Tables.{is_in}
 use Rattle.tl_isolation.specs.Tables.{IsHome, table_of}
-use Rattle.tl_isolation.proofs.Lookups.{weaker}
 use Rattle.tl_protocol.specs.Store.{Key}
 use Rattle.tl_protocol.proofs.Shown.{AreHomeWrites}
 use Rattle.tl_answer.specs.Own.{OwnSuits, StandsUnderKey}

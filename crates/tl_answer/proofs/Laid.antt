@@ -15,12 +15,13 @@ use Rattle.tl_write.specs.Tables.{Tables, is_in, laid_over, laid_rows, records_i
 use Rattle.tl_isolation.specs.Tables.{rows_in}
 use Rattle.tl_protocol.specs.Store.{Key, last_of, over, same_key, written}
 use Rattle.tl_protocol.proofs.Laid.{get_laid}
-use Rattle.tl_journal.proofs.KeyOrder.{in_table, tie}
+use Rattle.tl_journal.proofs.KeyOrder.{in_table}
+use Rattle.tl_write.proofs.Keys.{key_eq}
 
 abbrev Row : Type 0
 Row = List Value
 
--- keys that tie are one
+-- keys that key_eq are one
 pub equal_keys : finmap.IsAntisymmetric key_cmp
 equal_keys = slice_cmp-IsAntisymmetric nat_cmp-IsAntisymmetric
 
@@ -52,7 +53,7 @@ module _ (number : ℕ) where
           → written k (cond b (w ∷ writes_in number ws) (writes_in number ws)) ≡ with_first (same_key w.key k) w (written k ws)
       one true e later = ap (with_first (same_key w.key k) w) later
       one false e later =
-          later ∙ sym (unwritten w (written k ws) (same_key w.key k) (false_from_ne_true (same_key w.key k) (λ f. apart k w.key i e (sym (tie w.key k f)))))
+          later ∙ sym (unwritten w (written k ws) (same_key w.key k) (false_from_ne_true (same_key w.key k) (λ f. apart k w.key i e (sym (key_eq w.key k f)))))
 
   -- at another key
   written_out : (k : Key) (ws : List Write) → is_in number k ≡ false → written k (writes_in number ws) ≡ None
@@ -62,7 +63,7 @@ module _ (number : ℕ) where
       one : (b : Bool) → is_in number w.key ≡ b → written k (writes_in number ws) ≡ None
           → written k (cond b (w ∷ writes_in number ws) (writes_in number ws)) ≡ None
       one true e later =
-          unwritten w (written k (writes_in number ws)) (same_key w.key k) (false_from_ne_true (same_key w.key k) (λ f. apart w.key k e o (tie w.key k f))) ∙ later
+          unwritten w (written k (writes_in number ws)) (same_key w.key k) (false_from_ne_true (same_key w.key k) (λ f. apart w.key k e o (key_eq w.key k f))) ∙ later
       one false e later = later
 
   module _ (table : Table) where
@@ -73,7 +74,7 @@ module _ (number : ℕ) where
     rows_out k [] o = refl
     rows_out k (row ∷ rows) o =
         unwritten (write_of number table row) (written k (map (write_of number table) rows)) (same_key (record_key number table row) k)
-        (false_from_ne_true (same_key (record_key number table row) k) (λ f. apart (record_key number table row) k (row_in row) o (tie (record_key number table row) k f)))
+        (false_from_ne_true (same_key (record_key number table row) k) (λ f. apart (record_key number table row) k (row_in row) o (key_eq (record_key number table row) k f)))
         ∙ rows_out k rows o
 
     module _ (rows : List Row) (own : List Write) where

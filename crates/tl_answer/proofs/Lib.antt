@@ -1,4 +1,4 @@
 mod Changes
-pub mod Homes
+mod Homes
 mod Laid
 mod Views

@@ -1,3 +1,3 @@
-pub mod Columns
-pub mod Shown
+mod Columns
+mod Shown
 mod Spelled

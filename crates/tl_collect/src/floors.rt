@@ -10,7 +10,7 @@ ghost use Rattle.tl_manager.specs.State.{opening_copy};
 use std::alloc::Global;
 use std::marker::Model;
 use tl_base::{Items, NoMemory};
-use tl_descriptor::{Descriptor, begins_is_an_order};
+use tl_descriptor::Descriptor;
 
 /// The low-water marks that a node keeps, one for each manager.
 #[derive(Debug, Drop)]
@@ -82,7 +82,6 @@ impl Floors {
         ensures is_one { StandsIn self.now result.now }
         ensures begins_all { AllByRecursion IsCanonical self.now → IsChain self.now → AllByRecursion (λ mark. begins result.now mark ≡ true) self.now }
     {
-        begins_is_an_order();
         self.lowest()
     }
 

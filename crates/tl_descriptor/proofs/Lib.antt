@@ -1,5 +1,5 @@
-pub mod Apart
+mod Apart
 pub mod Members
 pub mod Order
-pub mod Searches
+mod Searches
 pub mod SetReading

@@ -3,6 +3,7 @@ use Rattle.std.proofs.Common.{◌≡◌, ℕ, zero, suc, ◌^◌, pos, negsuc, B
 use Rattle.std.specs.Prelude.{◌&&◌, slice_set, if◌then◌else◌}
 use Rattle.std.proofs.lemmas.Bool.{and_parts, and_from, ltb-true}
 use Rattle.std.proofs.lemmas.Str.{IsUtf8-from_is_utf8}
+use Rattle.std.proofs.lemmas.Option.{same_Some}
 use Rattle.tl_values.specs.declared.value.Kind.{Kind}
 use Rattle.tl_values.specs.declared.value.Kind.TheVariants as kind
 use Rattle.tl_values.specs.declared.value.Value.{Value}
@@ -30,7 +31,6 @@ use Rattle.tl_algebra.specs.Steps.{step_value}
 use Rattle.tl_algebra.specs.Value.{calculated, chained, figure, fits, stepped, value_layer, value_of}
 use Rattle.tl_isolation.specs.Kinds.{are_alike, are_of_kinds, compares_alike, condition_layer, gives_kind, has_column, is_of_kind, is_value, kind_layer, same_kind}
 use Rattle.tl_isolation.specs.Tables.{sets_its_kind}
-use Rattle.tl_isolation.proofs.Lookups.{some_same}
 
 -- a value as programs have them, NULL or of this kind
 pub record IsOne (k : Kind) (v : Value) : Type 0 where
@@ -68,7 +68,7 @@ placed k (column ∷ columns) (x ∷ xs) zero h o =
     subst (λ (k : Kind). is_of_kind k x ≡ true) (sym (kinds_same k column.kind h)) (and_parts (is_of_kind column.kind x) (are_of_kinds columns xs) o).0
 placed k (column ∷ columns) (x ∷ xs) (suc at) h o = placed k columns xs at h (and_parts (is_of_kind column.kind x) (are_of_kinds columns xs) o).1
 
-value_placed : (row : List Value) (at : ℕ) → AreValues row → IsValue (value_at row at)
+pub value_placed : (row : List Value) (at : ℕ) → AreValues row → IsValue (value_at row at)
 value_placed [] at h = tt
 value_placed (x ∷ xs) zero h = h.0
 value_placed (x ∷ xs) (suc at) h = value_placed xs at h.1
@@ -78,9 +78,9 @@ calculated_is : (a : Value) (by : Operator) (b v : Value) → calculated a by b 
 calculated_is (value.Int a) by (value.Int b) v e = one (fits (figure by a b)) refl e
   where
     one : (c : Bool) → fits (figure by a b) ≡ c → (if c then Some (value.Int (figure by a b)) else None) ≡ Some v → IsOne kind.Int v
-    one true f e = subst (IsOne kind.Int) (some_same (value.Int (figure by a b)) v e) (record { value = value_is (value.Int (figure by a b)) f; of = refl })
+    one true f e = subst (IsOne kind.Int) (same_Some (value.Int (figure by a b)) v e) (record { value = value_is (value.Int (figure by a b)) f; of = refl })
     one false f e = absurd cc
-calculated_is a by b v e = subst (IsOne kind.Int) (some_same value.Null v e) (null_is kind.Int)
+calculated_is a by b v e = subst (IsOne kind.Int) (same_Some value.Null v e) (null_is kind.Int)
 
 stepped_is : (a : Option Value) (by : Operator) (b : Option Value) (v : Value) → stepped a by b ≡ Some v → IsOne kind.Int v
 stepped_is None by b v e = absurd cc
@@ -124,16 +124,16 @@ value_of_layer row e = fold_out-Expression (Option Value) (value_layer row) e
 module _ (columns : List Column) (row : List Value) where
   value_by : (l : Expression-F Expression) (k : Kind) (v : Value) → AreValues row → kind_layer columns (map-Expression Expression (Kind → Bool) (gives_kind columns) l) k ≡ true
       → value_layer row (map-Expression Expression (Option Value) (λ e. value_of e row) l) ≡ Some v → IsValue v
-  value_by (layer.Place at) k v values h e = subst IsValue (some_same (value_at row at) v e) (value_placed row at values)
-  value_by (layer.Literal x) k v values h e = subst IsValue (some_same x v e) (value_is x (and_parts (is_of_kind k x) (is_value x) h).1)
+  value_by (layer.Place at) k v values h e = subst IsValue (same_Some (value_at row at) v e) (value_placed row at values)
+  value_by (layer.Literal x) k v values h e = subst IsValue (same_Some x v e) (value_is x (and_parts (is_of_kind k x) (is_value x) h).1)
   value_by (layer.Chain first []) k v values h e = absurd cc
   value_by (layer.Chain first (step ∷ steps)) k v values h e = (chain_is (value_of first row) (step_value row step) (map (step_value row) steps) v e).value
 
   kind_by : (l : Expression-F Expression) (k : Kind) (v : Value) → are_of_kinds columns row ≡ true
       → kind_layer columns (map-Expression Expression (Kind → Bool) (gives_kind columns) l) k ≡ true
       → value_layer row (map-Expression Expression (Option Value) (λ e. value_of e row) l) ≡ Some v → is_of_kind k v ≡ true
-  kind_by (layer.Place at) k v kinds h e = subst (λ v. is_of_kind k v ≡ true) (some_same (value_at row at) v e) (placed k columns row at h kinds)
-  kind_by (layer.Literal x) k v kinds h e = subst (λ v. is_of_kind k v ≡ true) (some_same x v e) (and_parts (is_of_kind k x) (is_value x) h).0
+  kind_by (layer.Place at) k v kinds h e = subst (λ v. is_of_kind k v ≡ true) (same_Some (value_at row at) v e) (placed k columns row at h kinds)
+  kind_by (layer.Literal x) k v kinds h e = subst (λ v. is_of_kind k v ≡ true) (same_Some x v e) (and_parts (is_of_kind k x) (is_value x) h).0
   kind_by (layer.Chain first []) k v kinds h e = absurd cc
   kind_by (layer.Chain first (step ∷ steps)) k v kinds h e =
       subst (λ k. is_of_kind k v ≡ true) (sym (kinds_same k kind.Int (and_parts (same_kind k kind.Int) _ h).0))

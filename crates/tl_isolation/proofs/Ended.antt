@@ -3,6 +3,8 @@ use Rattle.std.proofs.Common.{◌≡◌, ℕ, ◌==◌, Bool, true, false, not, 
 use Rattle.std.specs.Option.{option_or}
 use Rattle.std.proofs.lemmas.Bool.{both_ways, eqb-true, eq-eqb, not_from_true, ne_eqb}
 use Rattle.std.proofs.lemmas.List.Folds.{find-append}
+use Rattle.std.proofs.lemmas.Option.{same_Some}
+use Rattle.tl_lemmas.proofs.Lists.{all_of, filter_none, none_passes, weaker}
 use Rattle.tl_schema.specs.declared.catalog.Catalog.{Catalog}
 use Rattle.tl_isolation.specs.declared.entry.Answer.{Answer}
 use Rattle.tl_isolation.specs.declared.entry.Entry.{Entry}
@@ -13,13 +15,12 @@ use Rattle.tl_isolation.specs.History.{IsHistoryFrom, state_from}
 use Rattle.tl_isolation.specs.Promises.{ends, seen_by}
 use Rattle.tl_isolation.specs.State.{held_as, held_by, is_lost, without_held}
 use Rattle.tl_isolation.specs.Step.{Allowed, after, begin, commit, commit_answer, end_with, forget_note, lose, meet_rival, take_statement, try_commit, undo, undo_answer, with_held, with_outcome}
-use Rattle.tl_isolation.proofs.Lookups.{all_of, filter_none, none_passes, some_same, weaker}
 use Rattle.tl_isolation.proofs.Known.{Inv, as_map, lose_tid, put_tid}
 use Rattle.tl_isolation.proofs.Kept.{kept, numbered}
 use Rattle.tl_isolation.proofs.Past.{seen_more}
 
 chosen : (b : Bool) (m n : ℕ) → (if b then Some m else None) ≡ Some n → m ≡ n
-chosen true m n e = some_same m n e
+chosen true m n e = same_Some m n e
 chosen false m n e = absurd cc
 
 removed_end : (tid : ℕ) (told : Answer) (t : Transaction) (state : SiState) → held_as tid (without_held t.tid state.held) ≡ None

@@ -3,8 +3,9 @@ use Rattle.std.proofs.Common.{◌≡◌, ℕ, ◌==◌, Bool, true, false, List,
 use Rattle.std.specs.Prelude.{Contains}
 use Rattle.std.specs.List.{AllByRecursion}
 use Rattle.std.proofs.lemmas.Bool.{eqb-true}
-use Rattle.std.proofs.lemmas.Option.{slice_get_within}
+use Rattle.std.proofs.lemmas.Option.{same_Some, slice_get_within}
 use Rattle.std.proofs.lemmas.List.Elements.{Contains-append_right}
+use Rattle.tl_lemmas.proofs.Lists.{found, none_passes, passes}
 use Rattle.tl_schema.specs.declared.catalog.Catalog.{Catalog}
 use Rattle.tl_schema.specs.declared.catalog.Setup.{Setup}
 use Rattle.tl_write.specs.declared.fault.ChangeFault.{ChangeFault}
@@ -24,7 +25,6 @@ use Rattle.tl_isolation.specs.Meaning.{SelectAnswers, refusal_of, told_of}
 use Rattle.tl_isolation.specs.State.{held_as, held_by, idle, is_fresh, is_lost, node_of, opening_state, put_node, view_of, without_held}
 use Rattle.tl_isolation.specs.Step.{Allowed, MaySay, after, begin, commit, commit_answer, effect_on, end_with, keep_answer, lose, meet_rival, noted_of, open_by_begin, take_statement, try_commit, undo, undo_answer, with_held, with_noted, with_outcome}
 use Rattle.tl_isolation.specs.History.{IsHistory, IsHistoryFrom, state_after, state_from}
-use Rattle.tl_isolation.proofs.Lookups.{found, none_passes, passes, some_same}
 use Rattle.tl_isolation.proofs.Past.{IsKnown, IsReal, Known}
 use Rattle.tl_isolation.proofs.Known.{Inv, IsAlone, begun, committed, decided, emptied, forgotten, grown, holder, lost, node_at, noted, placed, put_alone, quiet_at, removed, unnoted}
 
@@ -48,7 +48,7 @@ kept_answer past told false t unlike k = record {
   seen = k.seen;
   last = k.last;
   clashed = k.clashed;
-  unlike = λ r e. unlike r (some_same told (answer.Conflict r) e);
+  unlike = λ r e. unlike r (same_Some told (answer.Conflict r) e);
 }
 
 kept_open : (past : List Entry) (t : Transaction) → IsKnown past t → IsKnown past (open_by_begin t)
@@ -198,7 +198,7 @@ kept catalog state past (entry.Clash tid rival at) v h =
       clashed = λ r f. (
         at,
         subst (λ (m : ℕ). Contains (past ++ e ∷ []) (entry.Clash m r at)) (sym (numbered tid state.held t i))
-            (subst (λ (m : ℕ). Contains (past ++ e ∷ []) (entry.Clash tid m at)) (some_same rival r f)
+            (subst (λ (m : ℕ). Contains (past ++ e ∷ []) (entry.Clash tid m at)) (same_Some rival r f)
             (Contains-append_right past (e ∷ []) e (0, omega arith, refl))),
       );
       unlike = k.unlike;

@@ -4,9 +4,10 @@ use Rattle.std.specs.Option.{option_or, unwrap_or}
 use Rattle.std.specs.Prelude.{drop, slice_get}
 use Rattle.std.specs.List.{list_any, AllByRecursion}
 use Rattle.std.proofs.lemmas.Bool.{both_ways, cases_lt, eqb-false, eqb-true, eq-eqb, ne_eqb, not-true, or_parts}
-use Rattle.std.proofs.lemmas.Option.{slice_get_within}
+use Rattle.std.proofs.lemmas.Option.{same_Some, slice_get_within}
 use Rattle.std.proofs.lemmas.List.Elements.{Contains-append_right}
 use Rattle.std.proofs.lemmas.List.Folds.{find-append, list_any-append}
+use Rattle.tl_lemmas.proofs.Lists.{all_append, all_both, all_filter, all_map, all_of, all_push, find_filter, find_map, found, passes, weaker}
 use Rattle.tl_write.specs.declared.write.Write.{Write}
 use Rattle.tl_write.specs.Own.{is_written}
 use Rattle.tl_isolation.specs.declared.entry.Answer.{Answer}
@@ -21,7 +22,6 @@ use Rattle.tl_isolation.specs.declared.state.TxnPhase.TheVariants as phase
 use Rattle.tl_isolation.specs.Promises.{begun_at, begun_with, seen_by}
 use Rattle.tl_isolation.specs.State.{held_as, idle, is_idle, node_of, put_held, put_node, without_held}
 use Rattle.tl_isolation.specs.Step.{begin, forget_note, is_alone, lose, noted_of, outcome_of, with_noted, with_outcome}
-use Rattle.tl_isolation.proofs.Lookups.{all_filter, all_map, all_of, all_push, find_filter, find_map, found, passes, some_same, weaker}
 use Rattle.tl_isolation.proofs.Past.{AreApart, IsKnown, IsReal, Saw, apart_more, clashed_more, known_more, last_begins, seen_begun, unseen_more}
 use Rattle.tl_isolation.proofs.Places.{later_placed, meet_in, placed_push}
 
@@ -60,14 +60,6 @@ grown past e state none nobody v = record {
   unbegun = λ tid h. unseen_more tid past e (v.unbegun tid h) (none tid);
   apart = apart_more past (e ∷ []) state.commits v.apart;
 }
-
-all_append : {X : Type 0} (P : X → Type 0) (xs ys : List X) → AllByRecursion P xs → AllByRecursion P ys → AllByRecursion P (xs ++ ys)
-all_append P [] ys h i = i
-all_append P (x ∷ xs) ys h i = (h.0, all_append P xs ys h.1 i)
-
-both_all : {X : Type 0} (P Q : X → Type 0) (xs : List X) → AllByRecursion P xs → AllByRecursion Q xs → AllByRecursion (λ x. P x × Q x) xs
-both_all P Q [] h i = tt
-both_all P Q (x ∷ xs) h i = ((h.0, i.0), both_all P Q xs h.1 i.1)
 
 pub node_at : (n : ℕ) (nodes : List NodeState) → (node_of n nodes).node ≡ n
 node_at n nodes = go (find (λ s. s.node == n) nodes) refl
@@ -217,7 +209,7 @@ module _ (past : List Entry) (state : SiState) (v : Inv past state) where
       others n h =
           all_map (λ (t : Transaction). ((f t).node ≡ t.node) × ((t.node == n) ≡ false)) (λ (t : Transaction). (t.node == n) ≡ false) f
           (λ t i. ap (λ (m : ℕ). m == n) i.0 ∙ i.1) state.held
-          (both_all (λ (t : Transaction). (f t).node ≡ t.node) (λ (t : Transaction). (t.node == n) ≡ false) state.held home h)
+          (all_both (λ (t : Transaction). (f t).node ≡ t.node) (λ (t : Transaction). (t.node == n) ≡ false) state.held home h)
 
   -- one of them, of which there is one with its number
   pub placed : (t old : Transaction) → held_as t.tid state.held ≡ Some old → t.node ≡ old.node → IsKnown past t → Inv past (record state { held = put_held t state.held })
@@ -227,7 +219,7 @@ module _ (past : List Entry) (state : SiState) (v : Inv past state) where
     where
       home : (h : Transaction) → IsAlone state.held h → (b : Bool) → (h.tid == t.tid) ≡ b → (if b then t else h).node ≡ h.node
       home h a true i =
-          let one : old ≡ h = some_same old h (sym e ∙ ap (λ (n : ℕ). held_as n state.held) (sym (eqb-true h.tid t.tid i)) ∙ a) in
+          let one : old ≡ h = same_Some old h (sym e ∙ ap (λ (n : ℕ). held_as n state.held) (sym (eqb-true h.tid t.tid i)) ∙ a) in
           same ∙ ap (λ (x : Transaction). x.node) one
       home h a false i = refl
 
@@ -317,7 +309,7 @@ module _ (past : List Entry) (state : SiState) (v : Inv past state) where
             ∙ ap (λ (b : Bool). if b then Some new else None) (eq-eqb tid tid refl));
         known = all_push (IsKnown (past ++ more)) state.held new
             (weaker (λ (t : Transaction). ((t.node == node) ≡ false) × IsKnown past t) (IsKnown (past ++ more)) (λ t h. known_more past e t (elsewhere t.node h.0) h.1) state.held
-            (both_all (λ (t : Transaction). (t.node == node) ≡ false) (IsKnown past) state.held others v.known))
+            (all_both (λ (t : Transaction). (t.node == node) ≡ false) (IsKnown past) state.held others v.known))
             (record {
               seen = seen_begun node tid first past none;
               last = last_begins node tid first past;
@@ -326,10 +318,10 @@ module _ (past : List Entry) (state : SiState) (v : Inv past state) where
             });
         real = weaker (λ (s : NodeState). ((s.node == node) ≡ true → (s.noted ≡ None) × (s.outcome ≡ None)) × IsRealNode past s) (IsRealNode (past ++ more))
             (λ s h. still s h.0 h.1 (s.node == node) refl) state.nodes
-            (both_all (λ (s : NodeState). (s.node == node) ≡ true → (s.noted ≡ None) × (s.outcome ≡ None)) (IsRealNode past) state.nodes silent v.real);
+            (all_both (λ (s : NodeState). (s.node == node) ≡ true → (s.noted ≡ None) × (s.outcome ≡ None)) (IsRealNode past) state.nodes silent v.real);
         quiet = weaker (λ (s : NodeState). ((s.node == node) ≡ true → (s.noted ≡ None) × (s.outcome ≡ None)) × IsQuiet state.held s) (IsQuiet (state.held ++ new ∷ []))
             (λ s h. hushed s h.0 h.1 (s.node == node) refl) state.nodes
-            (both_all (λ (s : NodeState). (s.node == node) ≡ true → (s.noted ≡ None) × (s.outcome ≡ None)) (IsQuiet state.held) state.nodes silent v.quiet);
+            (all_both (λ (s : NodeState). (s.node == node) ≡ true → (s.noted ≡ None) × (s.outcome ≡ None)) (IsQuiet state.held) state.nodes silent v.quiet);
         unbegun = λ m h.
             let parts = or_parts (list_any (λ (b : ℕ). b == m) state.begun) (list_any (λ (b : ℕ). b == m) (tid ∷ [])) (sym (list_any-append (λ (b : ℕ). b == m) state.begun (tid ∷ [])) ∙ h) in
             unseen_more m past e (v.unbegun m parts.0) (ap (λ (b : Bool). if b then Some first else None) (or_parts (tid == m) false parts.1).0);

@@ -1,9 +1,8 @@
-pub mod Lookups
 pub mod Computed
 pub mod Grouped
-pub mod Places
-pub mod Past
+mod Places
+mod Past
 pub mod Known
 pub mod Kept
-pub mod Ended
-pub mod Promised
+mod Ended
+mod Promised

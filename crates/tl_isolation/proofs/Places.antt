@@ -5,14 +5,15 @@ use Rattle.std.specs.List.{list_any}
 use Rattle.std.specs.Ordering.{is_eq}
 use Rattle.std.specs.FinMap.{nat_cmp-IsAntisymmetric, slice_cmp-IsAntisymmetric}
 use Rattle.std.proofs.lemmas.Bool.{or_cases, or_left, or_right}
+use Rattle.std.proofs.lemmas.Option.{same_Some}
 use Rattle.tl_write.specs.declared.write.Write.{Write}
 use Rattle.tl_write.specs.Own.{key_cmp, is_written}
-use Rattle.tl_isolation.proofs.Lookups.{some_same}
+use Rattle.tl_write.proofs.Keys.{key_eq}
 
 -- an element of a list and one more is the last, or stood there before
 pub placed_push : {X : Type 0} (xs : List X) (y : X) (i : ℕ) (x : X) → slice_get (xs ++ y ∷ []) i ≡ Some x
     → (slice_get xs i ≡ Some x) ⊎ ((i ≡ length xs) × (y ≡ x))
-placed_push [] y zero x e = inr (refl, some_same y x e)
+placed_push [] y zero x e = inr (refl, same_Some y x e)
 placed_push [] y (suc i) x e = absurd cc
 placed_push (z ∷ xs) y zero x e = inl e
 placed_push (z ∷ xs) y (suc i) x e =
@@ -31,7 +32,7 @@ placed_later p (suc n) (x ∷ xs) e = let r = placed_later p n xs e in (suc r.0,
 pub later_placed : {X : Type 0} (p : X → Bool) (n : ℕ) (xs : List X) (i : ℕ) (x : X) → slice_get xs i ≡ Some x → n ≤ i → p x ≡ true
     → list_any p (drop n xs) ≡ true
 later_placed p n [] i x e le h = absurd cc
-later_placed p zero (y ∷ ys) zero x e le h = or_left (p y) (list_any p ys) (ap p (some_same y x e) ∙ h)
+later_placed p zero (y ∷ ys) zero x e le h = or_left (p y) (list_any p ys) (ap p (same_Some y x e) ∙ h)
 later_placed p zero (y ∷ ys) (suc i) x e le h = or_right (p y) (list_any p ys) (later_placed p zero ys i x e (omega arith) h)
 later_placed p (suc n) (y ∷ ys) zero x e le h = absurd (omega arith)
 later_placed p (suc n) (y ∷ ys) (suc i) x e le h = later_placed p n ys i x e (omega arith) h
@@ -41,17 +42,9 @@ any_weaker p q f [] e = absurd cc
 any_weaker p q f (x ∷ xs) e =
     ⊎_elim (λ h. or_left (q x) (list_any q xs) (f x h)) (λ h. or_right (q x) (list_any q xs) (any_weaker p q f xs h)) (or_cases (p x) (list_any p xs) e)
 
-same_key : (k l : List ℕ) → is_eq (key_cmp k l) ≡ true → k ≡ l
-same_key k l h = slice_cmp-IsAntisymmetric nat_cmp-IsAntisymmetric k l (equal (key_cmp k l) h)
-  where
-    equal : (o : Ordering) → is_eq o ≡ true → o ≡ Equal
-    equal Less h = absurd cc
-    equal Equal h = refl
-    equal Greater h = absurd cc
-
 -- two lists of writes of one record meet in it
 pub meet_in : (key : List ℕ) (own writes : List Write) → is_written key own ≡ true → is_written key writes ≡ true
     → list_any (λ w. is_written w.key writes) own ≡ true
 meet_in key own writes mine other =
     any_weaker (λ w. is_eq (key_cmp w.key key)) (λ w. is_written w.key writes)
-    (λ w h. subst (λ k. is_written k writes ≡ true) (sym (same_key w.key key h)) other) own mine
+    (λ w h. subst (λ k. is_written k writes ≡ true) (sym (key_eq w.key key h)) other) own mine

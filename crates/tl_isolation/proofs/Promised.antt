@@ -2,6 +2,7 @@
 use Rattle.std.proofs.Common.{◌≡◌, ℕ, ◌==◌, ⊎_elim, inl, inr, Bool, true, false, ◌&&◌, List, [], ◌∷◌, ◌++◌, Some, None, drop, refl, sym, ap, ◌∙◌}
 use Rattle.std.specs.List.{list_any, AllByRecursion}
 use Rattle.std.proofs.lemmas.Bool.{and_parts, eqb-true, or_cases}
+use Rattle.tl_lemmas.proofs.Lists.{found}
 use Rattle.tl_schema.specs.declared.catalog.Catalog.{Catalog}
 use Rattle.tl_write.specs.declared.write.Write.{Write}
 use Rattle.tl_write.specs.Own.{is_written}
@@ -15,7 +16,6 @@ use Rattle.tl_isolation.specs.History.{IsHistoryFrom, state_after, state_from}
 use Rattle.tl_isolation.specs.Promises.{ClashIsReal, ConflictIsReal, EndsOnce, IsOutside, NeverOverlap, seen_by}
 use Rattle.tl_isolation.specs.State.{held_as, opening_state}
 use Rattle.tl_isolation.specs.Step.{Allowed, after, is_rival}
-use Rattle.tl_isolation.proofs.Lookups.{found}
 use Rattle.tl_isolation.proofs.Past.{IsKnown, seen_more}
 use Rattle.tl_isolation.proofs.Places.{placed_later}
 use Rattle.tl_isolation.proofs.Known.{Inv, IsAlone, real_at}

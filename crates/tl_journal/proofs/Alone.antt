@@ -6,6 +6,8 @@ use Rattle.std.specs.Option.{option_and_then}
 use Rattle.std.proofs.lemmas.List.Elements.{Contains-append_cases, Contains-append_left}
 use Rattle.std.proofs.lemmas.Bool.{both_ways, eqb-true, eq-eqb}
 use Rattle.std.proofs.lemmas.Bool.Decides.{nat_tests}
+use Rattle.std.proofs.lemmas.Option.{same_Some}
+use Rattle.tl_lemmas.proofs.Lists.{all_map, found}
 use Rattle.tl_isolation.specs.declared.bound.Bound.{Bound}
 use Rattle.tl_isolation.specs.declared.bound.Bound.TheVariants as bound
 use Rattle.tl_base.specs.Along.{Along}
@@ -34,7 +36,6 @@ use Rattle.tl_write.specs.Own.{is_written}
 use Rattle.tl_isolation.specs.State.{held_as, held_by, idle, is_fresh, is_lost, node_of, opening_state, put_held, put_node, without_held}
 use Rattle.tl_base.specs.NodeSet.{with_node}
 use Rattle.tl_isolation.specs.Step.{Allowed, HoldsNone, after, begin, commit, commit_answer, end_with, forget_note, holds, is_rival, keep_answer, lose, meet_rival, noted_of, open_by_begin, take_statement, try_commit, undo, undo_answer, with_held, with_noted, with_outcome}
-use Rattle.tl_isolation.proofs.Lookups.{all_map, found, some_same}
 use Rattle.tl_journal.specs.Promises.{NeverConflicts}
 use Rattle.tl_protocol.proofs.Held.{NodeTurn, node_noted, node_outcome, node_put}
 
@@ -182,7 +183,7 @@ module _ (n : ℕ) (catalog : Catalog) (s : SiState) (a : IsAlone n s) where
 
       noted : (k : ℕ) (b : Bool) → (m == n) ≡ b → (if b then Some (length s.commits) else noted_of s n) ≡ Some k → (s.held ≡ []) × (k ≡ length s.commits)
       noted k true same e =
-          (holds_none n (length s.commits) s.held a.each (ap (λ (i : ℕ). held_by i s.held) (sym (eqb-true m n same)) ∙ none), sym (some_same (length s.commits) k e))
+          (holds_none n (length s.commits) s.held a.each (ap (λ (i : ℕ). held_by i s.held) (sym (eqb-true m n same)) ∙ none), sym (same_Some (length s.commits) k e))
       noted k false same e = a.note k e
 
   began : (m tid first k : ℕ) → m ≡ n → noted_of s m ≡ Some k → k ≤ first → first ≤ length s.commits → IsAlone n (after catalog s (entry.Began m tid first))

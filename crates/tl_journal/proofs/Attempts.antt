@@ -2,6 +2,7 @@
 use Rattle.std.proofs.Common.{◌≡◌, inl, inr, ℕ, ◌==◌, ◌<◌, true, false, List, [], ◌∷◌, ◌++◌, length, Option, Some, None, refl, sym, ap, ◌∙◌, subst, append-nil}
 use Rattle.std.specs.Prelude.{slice_get}
 use Rattle.std.specs.List.{list_all}
+use Rattle.tl_lemmas.proofs.Lists.{behind_first}
 use Rattle.tl_base.specs.declared.place.Settings.{Settings}
 use Rattle.tl_schema.specs.declared.catalog.Setup.{Setup}
 use Rattle.tl_collect.specs.Floors.{least_of}
@@ -30,7 +31,7 @@ use Rattle.tl_journal.specs.Served.{Parts, Serves, parts_of}
 use Rattle.tl_journal.specs.Served as served
 use Rattle.tl_journal.proofs.Meets.{Before, Goes, IsPartOf, OwnOk, PhaseIs, PresentIs, RecoveryIs, StatementIs, attempt_left, attempt_of}
 use Rattle.tl_journal.proofs.Goings.{Steps, going, is_vanishing, mover, steps_as, steps_at, stops, turned}
-use Rattle.tl_journal.proofs.OwnWrites.{all_among, behind_first, first_part, has_one, less_part, none_among, not_before, one_more, one_removed, one_stored, rising_part}
+use Rattle.tl_journal.proofs.OwnWrites.{all_among, first_part, has_one, less_part, none_among, not_before, one_more, one_removed, one_stored, rising_part}
 use Rattle.tl_journal.proofs.Lows.{least_mark}
 
 -- of a conditional store's replies each leads to what holds of it

@@ -8,9 +8,11 @@ use Rattle.std.specs.FinMap.{nat_cmp-IsAntisymmetric, slice_cmp-IsAntisymmetric}
 use Rattle.std.specs.FinMap.Entries.{below_all, find, is_sorted}
 use Rattle.std.specs.List.{AllByRecursion, list_all}
 use Rattle.std.specs.Ordering.{is_eq, is_lt, match_ordering}
-use Rattle.std.proofs.lemmas.Bool.{and_parts, leb-false}
+use Rattle.std.proofs.lemmas.Bool.{and_parts, leb-false, or_right}
 use Rattle.std.proofs.lemmas.List.{length-set}
-use Rattle.std.proofs.lemmas.Option.{option_and_then_some}
+use Rattle.std.proofs.lemmas.Option.{option_and_then_some, same_Some}
+use Rattle.tl_lemmas.proofs.Lists.{all_filter, all_map, all_set}
+use Rattle.tl_lemmas.proofs.Tests.{and_first, and_second}
 use Rattle.tl_values.specs.declared.value.Value.{Value}
 use Rattle.tl_values.specs.Key.{AreValues, IsValue}
 use Rattle.tl_schema.specs.declared.catalog.Catalog.{Catalog}
@@ -32,18 +34,18 @@ use Rattle.tl_write.specs.Change.{Deed, Add, Replace, Remove, Overflow, after, d
 use Rattle.tl_write.specs.Own.{fresh, fresh_count, is_rising, is_written, key_cmp, put_write, put_writes, record_count}
 use Rattle.tl_write.specs.Tables.{Tables, is_in, laid_over, laid_write, records_in, write_of}
 use Rattle.tl_write.proofs.Fresh.{fresh_again, fresh_new}
-use Rattle.tl_write.proofs.Rising.{below_less, first, none_below, put_rising, second, turned}
+use Rattle.tl_write.proofs.Rising.{below_less, none_below, put_rising, turned}
 use Rattle.tl_isolation.specs.declared.bound.Bound.TheVariants as bound
 use Rattle.tl_isolation.specs.Meaning.{change_of}
 use Rattle.tl_isolation.specs.Step.{own_after}
 use Rattle.tl_isolation.specs.Tables.{FitsTable, Suits, sets_its_kind, table_of}
 use Rattle.tl_isolation.proofs.Computed.{set_value}
-use Rattle.tl_isolation.proofs.Lookups.{all_filter, all_map, some_same}
 use Rattle.tl_journal.specs.Binding.{KeyFits, TableFits, WriteFits}
 use Rattle.tl_journal.specs.Takes.{first_rows, view_changed}
 use Rattle.tl_journal.proofs.Fits.{RowFits}
 use Rattle.tl_journal.proofs.RowSizes.{key_fits, not_long, row_fits, row_from}
 use Rattle.tl_journal.proofs.Stated.{StatementOn}
+use Rattle.tl_write.proofs.Keys.{key_eq, none_below as none_below_all}
 
 -- the own writes of a transaction
 pub record OwnFits (own : List Write) : Type 0 where
@@ -59,15 +61,6 @@ RecordFits key row = KeyFits key × RowFits row
 abbrev AreRecords : Tables → Type 0
 AreRecords tables = (key : List ℕ) (row : List Value) → finmap.get tables key ≡ Some row → RecordFits key row
 
--- keys that tie are one
-tie : (k l : List ℕ) → is_eq (key_cmp k l) ≡ true → k ≡ l
-tie k l h = slice_cmp-IsAntisymmetric nat_cmp-IsAntisymmetric k l (equal (key_cmp k l) h)
-  where
-    equal : (o : Ordering) → is_eq o ≡ true → o ≡ Equal
-    equal Less h = absurd cc
-    equal Equal h = refl
-    equal Greater h = absurd cc
-
 none_there : AreRecords finmap.empty
 none_there key row e = let n : ◌≡◌ {A = Option (List Value)} None (Some row) = sym (finmap.get-empty key_cmp key) ∙ e in absurd cc
 
@@ -75,7 +68,7 @@ inserted_fits : (tables : Tables) (key : List ℕ) (row : List Value) → AreRec
 inserted_fits tables key row h i q r e = by (is_eq (key_cmp q key)) refl (sym (finmap.get-insert nat_list_cmp_total tables key row q) ∙ e)
   where
     by : (b : Bool) → is_eq (key_cmp q key) ≡ b → cond b (Some row) (finmap.get tables q) ≡ Some r → RecordFits q r
-    by true t e = subst (λ (k : List ℕ). RecordFits k r) (sym (tie q key t)) (subst (λ (x : List Value). RecordFits key x) (some_same row r e) i)
+    by true t e = subst (λ (k : List ℕ). RecordFits k r) (sym (key_eq q key t)) (subst (λ (x : List Value). RecordFits key x) (same_Some row r e) i)
     by false t e = h q r e
 
 removed_fits : (tables : Tables) (key : List ℕ) → AreRecords tables → AreRecords (finmap.remove tables key)
@@ -103,18 +96,6 @@ first_fit : (rows : List (List (List Value))) → AllByRecursion (AllByRecursion
 first_fit [] h = tt
 first_fit (r ∷ rows) h = h.0
 
--- a key below each of these has no entry
-none_below_all : (k : List ℕ) (es : List (List ℕ × List Value)) → below_all key_cmp k es ≡ true → find key_cmp k es ≡ None
-none_below_all k [] h = refl
-none_below_all k (e ∷ es) h =
-    let parts = and_parts (is_lt (key_cmp k e.0)) (below_all key_cmp k es) h in
-    ap (λ (b : Bool). cond b (Some e.1) (find key_cmp k es)) (apart (key_cmp k e.0) parts.0) ∙ none_below_all k es parts.1
-  where
-    apart : (o : Ordering) → is_lt o ≡ true → is_eq o ≡ false
-    apart Less i = refl
-    apart Equal i = absurd cc
-    apart Greater i = absurd cc
-
 -- what is so of each look-up is so of each entry
 listed : (es : List (List ℕ × List Value)) → is_sorted key_cmp es ≡ true → ((k : List ℕ) (row : List Value) → find key_cmp k es ≡ Some row → RecordFits k row)
     → AllByRecursion (λ e. RecordFits e.0 e.1) es
@@ -130,7 +111,7 @@ listed (e ∷ es) s h =
 
     later : (k : List ℕ) (row : List Value) → find key_cmp k es ≡ Some row → below_all key_cmp e.0 es ≡ true → (b : Bool) → is_eq (key_cmp k e.0) ≡ b
         → cond b (Some e.1) (find key_cmp k es) ≡ Some row
-    later k row i below true t = absurd (no_row (sym (ap (λ (l : List ℕ). find key_cmp l es) (tie k e.0 t) ∙ none_below_all e.0 es below) ∙ i))
+    later k row i below true t = absurd (no_row (sym (ap (λ (l : List ℕ). find key_cmp l es) (key_eq k e.0 t) ∙ none_below_all e.0 es below) ∙ i))
     later k row i below false t = i
 
 matching_fit : (number : ℕ) (condition : Option Condition) (tables : Tables) → AreRecords tables → AllByRecursion (λ e. RecordFits e.0 e.1) (matching number condition tables)
@@ -160,22 +141,17 @@ DeedFits table (Replace key row) = KeyFits key × IsNarrow row
 DeedFits table (Remove key) = KeyFits key
 DeedFits table Overflow = Unit {0}
 
-set_all : {X : Type 0} (P : X → Type 0) (xs : List X) (place : ℕ) (y : X) → AllByRecursion P xs → P y → AllByRecursion P (slice_set xs place y)
-set_all P [] place y h p = tt
-set_all P (x ∷ xs) zero y h p = (p, h.1)
-set_all P (x ∷ xs) (suc place) y h p = (h.0, set_all P xs place y h.1 p)
-
 -- SET leaves the width of a row, and values
 columns_fit : (columns : List Column) (sets : List SetColumn) (old new row : List Value) → AreValues old → list_all (sets_its_kind columns) sets ≡ true → IsNarrow new
     → set_columns sets old new ≡ Some row → IsNarrow row
-columns_fit columns [] old new row o g h e = subst IsNarrow (some_same new row e) h
+columns_fit columns [] old new row o g h e = subst IsNarrow (same_Some new row e) h
 columns_fit columns (s ∷ ss) old new row o g h e =
     let parts = and_parts (sets_its_kind columns s) (list_all (sets_its_kind columns) ss) g in
     option_and_then_some (λ (v : Value). set_columns ss old (slice_set new s.column v)) (value_of s.value old) row e
     (λ v i j. columns_fit columns ss old (slice_set new s.column v) row o parts.1 (one v (set_value columns s old v o parts.0 i)) j)
   where
     one : (v : Value) → IsValue v → IsNarrow (slice_set new s.column v)
-    one v i = record { count = rw (length-set new s.column v) h.count; values = set_all IsValue new s.column v h.values i }
+    one v i = record { count = rw (length-set new s.column v) h.count; values = all_set IsValue new s.column v h.values i }
 
 replaced_fits : (table : Table) (key : List ℕ) (o : Option (List Value)) → KeyFits key → ((row : List Value) → o ≡ Some row → IsNarrow row) → DeedFits table (replaced key o)
 replaced_fits table key None k f = tt
@@ -295,12 +271,12 @@ judged_fits table is_there own (deed ∷ ds) done effect h d e =
 
 put_length : (w : Write) (own : List Write) → is_rising own ≡ true → length (put_write w own) ≤ length own + fresh own w.key
 put_length w [] rising = omega arith
-put_length w (x ∷ xs) rising = by (key_cmp w.key x.key) refl (put_length w xs (second _ _ rising))
+put_length w (x ∷ xs) rising = by (key_cmp w.key x.key) refl (put_length w xs (and_second _ _ rising))
   where
     by : (o : Ordering) → key_cmp w.key x.key ≡ o → length (put_write w xs) ≤ length xs + fresh xs w.key
         → length (match_ordering o (w ∷ x ∷ xs) (w ∷ xs) (x ∷ put_write w xs)) ≤ length (x ∷ xs) + fresh (x ∷ xs) w.key
     by Less p f =
-        let none : is_written w.key xs ≡ false = none_below w.key xs (below_less w.key x.key xs p (first _ _ rising)) in
+        let none : is_written w.key xs ≡ false = none_below w.key xs (below_less w.key x.key xs p (and_first _ _ rising)) in
         let new : is_written w.key (x ∷ xs) ≡ false = ap (λ (o : Ordering). is_eq o || is_written w.key xs) (turned w.key x.key Less p) ∙ none in
         let one : fresh (x ∷ xs) w.key ≡ 1 = ap (λ (b : Bool). cond b 0 1) new in
         omega arith
@@ -315,10 +291,6 @@ either : (a b c : Bool) → (b ≡ true → c ≡ true) → (a || b) ≡ true �
 either true b c f h = refl
 either false b c f h = f h
 
-behind : (a b : Bool) → b ≡ true → (a || b) ≡ true
-behind true b h = refl
-behind false b h = h
-
 eq_same : (k : List ℕ) (w x : Write) → key_cmp w.key x.key ≡ Equal → is_eq (key_cmp x.key k) ≡ is_eq (key_cmp w.key k)
 eq_same k w x p = ap (λ (l : List ℕ). is_eq (key_cmp l k)) (sym (slice_cmp-IsAntisymmetric nat_cmp-IsAntisymmetric w.key x.key p))
 
@@ -328,7 +300,7 @@ still_written k w (x ∷ xs) h = by (key_cmp w.key x.key) refl (still_written k 
   where
     by : (o : Ordering) → key_cmp w.key x.key ≡ o → (is_written k xs ≡ true → is_written k (put_write w xs) ≡ true)
         → is_written k (match_ordering o (w ∷ x ∷ xs) (w ∷ xs) (x ∷ put_write w xs)) ≡ true
-    by Less p f = behind (is_eq (key_cmp w.key k)) (is_written k (x ∷ xs)) h
+    by Less p f = or_right (is_eq (key_cmp w.key k)) (is_written k (x ∷ xs)) h
     by Equal p f = ap (λ (b : Bool). b || is_written k xs) (sym (eq_same k w x p)) ∙ h
     by Greater p f = either (is_eq (key_cmp x.key k)) (is_written k xs) (is_written k (put_write w xs)) f h
 

@@ -4,6 +4,7 @@ use Rattle.std.specs.Prelude.{◌==◌, ◌&&◌, ◌||◌, not}
 use Rattle.std.specs.List.{list_any}
 use Rattle.std.proofs.lemmas.Bool.{cases_eq, ne_eqb}
 use Rattle.std.proofs.lemmas.List.Folds.{list_any-append}
+use Rattle.std.proofs.lemmas.Option.{same_Some}
 use Rattle.tl_base.specs.NodeSet.{with_node}
 use Rattle.tl_base.specs.declared.node.NodeSet.{NodeSet}
 use Rattle.tl_base.specs.declared.place.Settings.{Settings}
@@ -26,7 +27,6 @@ use Rattle.tl_isolation.specs.Script.{setup_of}
 use Rattle.tl_protocol.specs.Store.{Key, CommitsCell, LogCell}
 use Rattle.tl_protocol.specs.World.{Loaded}
 use Rattle.tl_protocol.specs.Next.{marked}
-use Rattle.tl_protocol.proofs.Frames.{some_same}
 use Rattle.tl_journal.specs.declared.event.Event.{Event}
 use Rattle.tl_journal.specs.Ask.{Ask, LoadCommits, StoreCommits, LoadLog, StoreLog, LoadRecord, StoreRecord, AskManager, Told}
 use Rattle.tl_journal.specs.Asks.{Course, ToRecover, asks, asks_outside, course_outside}
@@ -55,7 +55,7 @@ claim_replied m gone (reply.Manager answer) told e = ap reply.Manager (same answ
 claim_replied m gone (reply.Store answer) told e = absurd cc
 
 no_claim : (is ask : Ask) → is_claim (written is) ≡ false → Some is ≡ Some ask → is_claim (written ask) ≡ false
-no_claim is ask h e = subst (λ (a : Ask). is_claim (written a) ≡ false) (some_same is ask e) h
+no_claim is ask h e = subst (λ (a : Ask). is_claim (written a) ≡ false) (same_Some is ask e) h
 
 module _ (settings : Settings) (catalog : Catalog) (node : Node) (statement : Bound) (later : List Bound) (ask : Ask) where
   abbrev AsksAt : Doing → Type 0
@@ -63,7 +63,7 @@ module _ (settings : Settings) (catalog : Catalog) (node : Node) (statement : Bo
 
   pub claim_asked : (course : Course) (gone : ℕ) → course_outside statement ≡ course → course ≡ ToRecover gone → AsksAt Outside → ask ≡ AskManager (home_of settings gone) (asked.Claim gone)
   claim_asked course gone e f is =
-      some_same ask (AskManager (home_of settings gone) (asked.Claim gone))
+      same_Some ask (AskManager (home_of settings gone) (asked.Claim gone))
       (sym is ∙ ap (λ (x : Course). Some (asks_outside settings (so_far node (statement ∷ later) Outside) statement x)) (e ∙ f))
 
   -- a node that recovers claims nothing
@@ -234,7 +234,7 @@ module _ (script : Script) (settings : Settings) where
         by (inl same) = on leads
           where
             sessions : own ≡ session
-            sessions = some_same own session (sym is_own ∙ ap (session_of script) same ∙ h)
+            sessions = same_Some own session (sym is_own ∙ ap (session_of script) same ∙ h)
 
             on : (after_event settings script e (node_after settings script past own) ≡ takes settings script.catalog (node_after settings script past own) (heard ask e.reply) (answer_said e.entries))
                 ⊎ (after_event settings script e (node_after settings script past own) ≡ cut_short settings script.catalog (node_after settings script past own) (heard ask e.reply) (answer_said e.entries))

@@ -2,6 +2,7 @@
 -- stands.
 use Rattle.std.proofs.Common.{◌≡◌, ℕ, Bool, true, false, inl, inr, List, [], ◌∷◌, Option, Some, None, refl, sym, ap, ◌∙◌, subst, ⊎_elim}
 use Rattle.std.specs.Prelude.{slice_set}
+use Rattle.std.proofs.lemmas.Option.{same_Some}
 use Rattle.tl_base.specs.declared.place.Settings.{Settings}
 use Rattle.tl_schema.specs.declared.catalog.Catalog.{Catalog}
 use Rattle.tl_schema.specs.declared.catalog.Setup.{Setup}
@@ -29,7 +30,7 @@ use Rattle.tl_protocol.specs.Next.{begun_txn, next}
 use Rattle.tl_protocol.specs.Told.{count_in, finished_as, finished_so, told}
 use Rattle.tl_protocol.specs.Run.{Layout}
 use Rattle.tl_protocol.proofs.Duties.{active_part}
-use Rattle.tl_protocol.proofs.Frames.{put_same, some_same}
+use Rattle.tl_protocol.proofs.Frames.{put_same}
 use Rattle.tl_protocol.proofs.Inv.{ActiveOk, RecoveryOk, base}
 use Rattle.tl_protocol.proofs.Reached.{Reached, reached}
 use Rattle.tl_protocol.proofs.Steps.{recovery_at}
@@ -76,7 +77,7 @@ quiet_begin node statement heard = refl
 
 -- ---- what is said is all that is told
 
-unsaid_read : (node : Node) (statement : Bound) (t : Txn) (o : Option Reads) (told : Answer) → unsaid (says_read node statement t o told) ≡ []
+pub unsaid_read : (node : Node) (statement : Bound) (t : Txn) (o : Option Reads) (told : Answer) → unsaid (says_read node statement t o told) ≡ []
 unsaid_read node statement t None told = refl
 unsaid_read node statement t (Some after) told = by after.left
   where
@@ -214,7 +215,7 @@ module _ (R : Txn → List Fact → Reads → Type 0) (layout : Layout) (setup :
       b.node_is.number (h w state entries heard told after) b
 
   cuts_as : (node : Node) (ask : Ask) → asks settings setup.catalog node ≡ Some ask → CutsAs node.number node ask → Cuts node
-  cuts_as node ask e h n other f = subst (λ a. CutsAs n node a) (some_same ask other (sym e ∙ f)) (renumber node n ask h)
+  cuts_as node ask e h n other f = subst (λ a. CutsAs n node a) (same_Some ask other (sym e ∙ f)) (renumber node n ask h)
 
   cuts_at : (node : Node) (todo : List Bound) (doing : Doing) → node.todo ≡ todo → node.doing ≡ doing → Cuts (so_far node todo doing) → Cuts node
   cuts_at node todo doing e f h =

@@ -1,6 +1,7 @@
 -- A request at whose reply the node wants memory: what is told of it speaks the script.
 use Rattle.std.proofs.Common.{◌≡◌, ℕ, Bool, true, false, ◌⊎◌, List, [], ◌∷◌, ◌++◌, Option, Some, None, refl, sym, ap, subst, inl, inr}
 use Rattle.std.specs.Prelude.{◌||◌, not, if◌then◌else◌}
+use Rattle.tl_lemmas.proofs.Lists.{all_filter}
 use Rattle.tl_base.specs.Along.{Along}
 use Rattle.tl_base.specs.declared.place.Settings.{Settings}
 use Rattle.tl_schema.specs.declared.catalog.Catalog.{Catalog}
@@ -14,7 +15,6 @@ use Rattle.tl_isolation.specs.declared.script.Script.{Script}
 use Rattle.tl_isolation.specs.declared.script.Session.{Session}
 use Rattle.tl_isolation.specs.declared.state.Commit.{Commit as Committed}
 use Rattle.tl_isolation.specs.Script.{SpeaksAt, begins_transaction}
-use Rattle.tl_isolation.proofs.Lookups.{all_filter}
 use Rattle.tl_protocol.specs.Told.{count_in}
 use Rattle.tl_protocol.specs.World.{Decision, Txn, Loaded}
 use Rattle.tl_versions.specs.Versions.{stranger}

@@ -4,6 +4,7 @@ use Rattle.std.proofs.Common.{◌≡◌, ℕ, Bool, true, false, List, [], ◌�
 use Rattle.std.specs.Prelude.{filter, is_some, length, map}
 use Rattle.std.specs.FinMap as finmap
 use Rattle.std.specs.Cmp.Lexicographic.{nat_list_cmp_total}
+use Rattle.tl_lemmas.proofs.Lists.{no_length}
 use Rattle.tl_base.specs.NodeSet.{no_nodes}
 use Rattle.tl_base.specs.declared.place.Settings.{Settings}
 use Rattle.tl_values.specs.declared.value.Kind.TheVariants as kind
@@ -114,10 +115,6 @@ module _ (settings : Settings) (catalog : Catalog) (commits : List Committed) wh
       }
 
 -- ---- what a change writes
-
-no_length : {A : Type 0} (xs : List A) → length xs ≡ 0 → xs ≡ []
-no_length [] e = refl
-no_length (x ∷ xs) e = absurd (omega arith)
 
 entries_empty : finmap.entries (finmap.empty {X = List Value} {R = key_cmp}) ≡ []
 entries_empty =

@@ -9,6 +9,8 @@ use Rattle.std.proofs.lemmas.Bool.Decides.{nat_tests}
 use Rattle.std.proofs.lemmas.List.{append_assoc}
 use Rattle.std.proofs.lemmas.List.Folds.{list_any-append}
 use Rattle.std.proofs.Math.Nat.{mod-lt}
+use Rattle.std.proofs.lemmas.Option.{same_Some}
+use Rattle.tl_lemmas.proofs.Lists.{all_append, weaker}
 use Rattle.tl_base.specs.declared.place.Settings.{Settings}
 use Rattle.tl_values.specs.declared.value.Value.{Value}
 use Rattle.tl_values.specs.Key.{key_bytes}
@@ -29,7 +31,6 @@ use Rattle.tl_write.specs.Tables.{Tables, is_in}
 use Rattle.tl_isolation.specs.declared.bound.Bound.{Bound}
 use Rattle.tl_isolation.specs.declared.bound.Bound.TheVariants as bound
 use Rattle.tl_isolation.specs.Tables.{AreHome, IsHome, table_of}
-use Rattle.tl_isolation.proofs.Lookups.{some_same, weaker}
 use Rattle.tl_protocol.specs.Store.{Key, row_shown, same_key}
 use Rattle.tl_protocol.specs.World.{Holds, Txn, Fact, World, Agrees}
 use Rattle.tl_protocol.specs.Move.{takes_statements}
@@ -37,7 +38,8 @@ use Rattle.tl_protocol.specs.Next.{fact_of}
 use Rattle.tl_journal.specs.Ask.{Found}
 use Rattle.tl_journal.specs.Reads.{Read, Point, Range, Reads, after_read, all_reads, begin_reads, edit_reads, key_behind, next_table, range_left, range_of, read_of, reads_of, rows_found, table_key, tables_read, take_cell, take_page}
 use Rattle.tl_journal.specs.Served.{IsPage, IsWithin, are_rising, is_found, page_end}
-use Rattle.tl_journal.proofs.KeyOrder.{at_least, behind_key, below_itself, between, in_table, same_itself, tie}
+use Rattle.tl_journal.proofs.KeyOrder.{at_least, behind_key, below_itself, between, in_table}
+use Rattle.tl_write.proofs.Keys.{key_eq, key_itself}
 
 -- ---- definitions
 
@@ -116,10 +118,6 @@ among_left x (y ∷ xs) ys (inr h) = inr (among_left x xs ys h)
 among_right : {A : Type 0} (x : A) (xs ys : List A) → Among x ys → Among x (xs ++ ys)
 among_right x [] ys h = h
 among_right x (y ∷ xs) ys h = inr (among_right x xs ys h)
-
-all_append : {A : Type 0} (P : A → Type 0) (xs ys : List A) → AllByRecursion P xs → AllByRecursion P ys → AllByRecursion P (xs ++ ys)
-all_append P [] ys h i = i
-all_append P (x ∷ xs) ys h i = (h.0, all_append P xs ys h.1 i)
 
 map_append : {A B : Type 0} (f : A → B) (xs ys : List A) → map f (xs ++ ys) ≡ map f xs ++ map f ys
 map_append f [] ys = refl
@@ -203,7 +201,7 @@ module _ (shards : ℕ) (catalog : Catalog) where
       on false true x y h = (refl, refl)
 
   point_within : (number : ℕ) (key k : Key) (row : List Value) → reaches shards (Point (table_key number key)) k row ≡ true → is_in number k ≡ true
-  point_within number key k row h = subst (λ (l : Key). is_in number l ≡ true) (tie (table_key number key) k h) (in_table number key)
+  point_within number key k row h = subst (λ (l : Key). is_in number l ≡ true) (key_eq (table_key number key) k h) (in_table number key)
 
   read_within : (number : ℕ) (a : Access) (k : Key) (row : List Value) → reaches shards (read_of number a) k row ≡ true → is_in number k ≡ true
   read_within number (access.Point key) k row h = point_within number key k row h
@@ -367,7 +365,7 @@ goes_on settings catalog statement t facts fact reads read left rest rows e b h 
 
 option_has : (o : Option (List Value)) (row : List Value) → o ≡ Some row → Among row (option_to_list o)
 option_has None row e = absurd cc
-option_has (Some r) row e = inl (some_same r row e)
+option_has (Some r) row e = inl (same_Some r row e)
 
 module _ (shards : ℕ) (w : World) (snapshot : TidSet) (key : Key) where
   -- the fact that is known then
@@ -380,14 +378,14 @@ module _ (shards : ℕ) (w : World) (snapshot : TidSet) (key : Key) where
   load_sound : (tables : Tables) (o : Option (List Value)) → its_row ≡ o → finmap.get tables key ≡ its_row
       → AllByRecursion (λ row. (k : Key) × (reaches shards (Point key) k row ≡ true) × Has tables k row) (option_to_list o)
   load_sound tables None e h = tt
-  load_sound tables (Some row) e h = ((key, same_itself key, h ∙ e), tt)
+  load_sound tables (Some row) e h = ((key, key_itself key, h ∙ e), tt)
 
   load_brings : Brings shards (Point key) looked_up [] (option_to_list its_row)
   load_brings = record {
     less = λ k row e. absurd cc;
-    sound = λ tables has. load_sound tables its_row refl (has key (same_itself key));
+    sound = λ tables has. load_sound tables its_row refl (has key (key_itself key));
     complete = λ tables has k row is reached missed.
-        option_has its_row row (ap (λ (l : Key). row_shown snapshot (w.cells l).versions) (tie key k reached) ∙ sym (has k reached) ∙ is);
+        option_has its_row row (ap (λ (l : Key). row_shown snapshot (w.cells l).versions) (key_eq key k reached) ∙ sym (has k reached) ∙ is);
   }
 
 pub load_goes_on : (settings : Settings) (catalog : Catalog) (statement : Bound) (t : Txn) (facts : List Fact) (w : World) (reads : Reads) (key : Key) (left : List Read)
@@ -456,7 +454,7 @@ module _ (settings : Settings) (w : World) (snapshot : TidSet) (shard : ℕ) (fr
         (
           f.key,
           within_reached f.key row h.0.0,
-          has f.key (or_left (same_key f.key f.key) (is_found f.key fs) (same_itself f.key)) ∙ ap (row_shown snapshot) (sym h.0.1) ∙ e,
+          has f.key (or_left (same_key f.key f.key) (is_found f.key fs) (key_itself f.key)) ∙ ap (row_shown snapshot) (sym h.0.1) ∙ e,
         ),
         tt,
       )
@@ -467,7 +465,7 @@ module _ (settings : Settings) (w : World) (snapshot : TidSet) (shard : ℕ) (fr
       subst (Among row) (sym (rows_of f fs))
       (⊎_elim
       (λ same. among_left row (option_to_list (row_shown snapshot f.versions)) (rows_found snapshot fs)
-      (option_has (row_shown snapshot f.versions) row (ap (row_shown snapshot) h.0.1 ∙ ap shown (tie f.key k same) ∙ i)))
+      (option_has (row_shown snapshot f.versions) row (ap (row_shown snapshot) h.0.1 ∙ ap shown (key_eq f.key k same) ∙ i)))
       (λ later. among_right row (option_to_list (row_shown snapshot f.versions)) (rows_found snapshot fs) (found_row k row fs h.1 later i))
       (or_cases (same_key f.key k) (is_found k fs) e))
 

@@ -4,6 +4,7 @@ use Rattle.std.specs.Prelude.{nat_lt}
 use Rattle.std.specs.List.{AllByRecursion}
 use Rattle.std.proofs.lemmas.Bool.{cases_lt, le-ltb, lt-ltb}
 use Rattle.std.proofs.lemmas.List.{length-append, length-reverse, length_push, take_all, take-append-le, drop-append-le, drop_all}
+use Rattle.tl_lemmas.proofs.Lists.{all_push, reverse_cons}
 use Rattle.tl_base.specs.declared.place.Settings.{Settings}
 use Rattle.tl_descriptor.specs.Tids.{TidSet, has}
 use Rattle.tl_manager.specs.declared.request.ManagerReply.TheVariants as manager
@@ -20,12 +21,11 @@ use Rattle.tl_isolation.specs.declared.state.Commit.{Commit}
 use Rattle.tl_isolation.specs.declared.state.SiState.{SiState}
 use Rattle.tl_isolation.specs.History.{state_after}
 use Rattle.tl_isolation.specs.Script.{setup_of}
-use Rattle.tl_isolation.proofs.Lookups.{all_push}
 use Rattle.tl_protocol.specs.World.{Fact, Txn, World}
 use Rattle.tl_protocol.specs.Run.{Layout}
 use Rattle.tl_protocol.proofs.Finished.{Finished, Fits, Snap, commits_of, firsts}
 use Rattle.tl_protocol.proofs.Inv.{Ghost, Inv}
-use Rattle.tl_protocol.proofs.Laid.{count_turned, reverse_cons}
+use Rattle.tl_protocol.proofs.Laid.{count_turned}
 use Rattle.tl_protocol.proofs.Ledger.{Ledger}
 use Rattle.tl_protocol.proofs.Reached.{reached}
 use Rattle.tl_protocol.proofs.Sets.{count_is, fits}

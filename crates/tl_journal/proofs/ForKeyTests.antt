@@ -17,9 +17,9 @@ use Rattle.tl_isolation.specs.Kinds.{are_of_kinds, is_of_kind}
 use Rattle.tl_isolation.specs.Tables.{FitsTable, IsAccepted, IsHome, table_of}
 use Rattle.tl_protocol.specs.Stands.{IsKeyOf, IsVersionFor}
 use Rattle.tl_protocol.specs.Store.{Key, same_key}
-use Rattle.tl_protocol.proofs.Cells.{key_itself}
 use Rattle.tl_journal.specs.ForKey.{are_values_of, first_passes, greatest_tid, is_change_for, is_home, is_key_in, is_key_of, is_of_column, is_record_for, is_row_of}
 use Rattle.tl_journal.proofs.Keyed.{accepted_parts, key_of_values, key_short}
+use Rattle.tl_write.proofs.Keys.{key_itself}
 
 -- ---- rows
 

@@ -2,6 +2,7 @@
 use Rattle.std.proofs.Common.{◌≡◌, ℕ, ◌+◌, zero, suc, Bool, true, false, ◌⊎◌, inl, inr, List, [], ◌∷◌, ◌++◌, length, Some, refl, sym, ap, ◌∙◌, subst}
 use Rattle.std.specs.Prelude.{slice_get, slice_set}
 use Rattle.std.proofs.lemmas.List.{append-nil, append_assoc, length-set}
+use Rattle.std.proofs.lemmas.Option.{same_Some}
 use Rattle.tl_base.specs.declared.node.NodeSet.{NodeSet}
 use Rattle.tl_base.specs.declared.place.Settings.{Settings}
 use Rattle.tl_schema.specs.declared.catalog.Catalog.{Catalog}
@@ -22,8 +23,8 @@ use Rattle.tl_protocol.specs.Next.{next}
 use Rattle.tl_protocol.specs.Told.{told}
 use Rattle.tl_protocol.specs.Run.{Layout, Reach, Step}
 use Rattle.tl_protocol.specs.Stands.{HasInLog}
-use Rattle.tl_protocol.proofs.Frames.{put_one, put_other, some_same}
-use Rattle.tl_protocol.proofs.Reached.{reached}
+use Rattle.tl_protocol.proofs.Frames.{put_one, put_other}
+use Rattle.tl_protocol.proofs.Reached.{reached, state_append}
 use Rattle.tl_protocol.proofs.Standing.{nodes_know}
 use Rattle.tl_journal.specs.Ask.{Ask, Heard}
 use Rattle.tl_journal.specs.Bytes.{home_of}
@@ -203,7 +204,7 @@ laid_out_after settings w world n o l =
 
 set_here : {A : Type 0} (xs : List A) (i : ℕ) (x y : A) → slice_get (slice_set xs i x) i ≡ Some y → x ≡ y
 set_here [] i x y e = cc
-set_here (z ∷ zs) zero x y e = some_same x y e
+set_here (z ∷ zs) zero x y e = same_Some x y e
 set_here (z ∷ zs) (suc i) x y e = set_here zs i x y e
 
 set_elsewhere : {A : Type 0} (xs : List A) (i j : ℕ) (x : A) → (i ≡ j → ⊥) → slice_get (slice_set xs i x) j ≡ slice_get xs j
@@ -272,10 +273,6 @@ module _ (R : Txn → List Fact → Reads → Type 0) (settings : Settings) wher
   stopped_is node w n is = turned node (stopped node) w w n is refl refl (λ j. refl) tt
       (owed_is node.doing (w.recoveries n) is.recovery) (present_of_stopped (owed_by node.doing) node.todo)
 
-state_append : (catalog : Catalog) (s : SiState) (ds es : List Entry) → state_from catalog s (ds ++ es) ≡ state_from catalog (state_from catalog s ds) es
-state_append catalog s [] es = refl
-state_append catalog s (d ∷ ds) es = state_append catalog (after catalog s d) ds es
-
 module _ (R : Txn → List Fact → Reads → Type 0) (layout : Layout) (setup : Setup) (settings : Settings) where
   joined : (w : World) (s : SiState) (entries ds es : List Entry)
       → Reach layout setup w (state_from setup.catalog (state_from setup.catalog s ds) es) ((entries ++ ds) ++ es)
@@ -309,7 +306,7 @@ module _ (R : Txn → List Fact → Reads → Type 0) (layout : Layout) (setup :
 
   -- it is shown of the one request that the node makes, under its own number
   pub steps_as : (node : Node) (ask : Ask) → asks settings setup.catalog node ≡ Some ask → StepsAs node.number node ask → Steps node
-  steps_as node ask e h n other f = subst (λ a. StepsAs n node a) (some_same ask other (sym e ∙ f)) (renumber node n ask h)
+  steps_as node ask e h n other f = subst (λ a. StepsAs n node a) (same_Some ask other (sym e ∙ f)) (renumber node n ask h)
 
   -- the node with these statements left, doing this
   pub steps_at : (node : Node) (todo : List Bound) (doing : Doing) → node.todo ≡ todo → node.doing ≡ doing

@@ -5,6 +5,7 @@ use Rattle.std.specs.Int.{bit_at}
 use Rattle.std.proofs.lemmas.Bool.{both_ways, eqb-true, false≢true, or_right}
 use Rattle.std.proofs.lemmas.Bool.Decides.{nat_tests}
 use Rattle.std.proofs.lemmas.Nat.Bits.{bit_at_or, bit_at-lt}
+use Rattle.tl_lemmas.proofs.Lists.{all_filter, all_map, all_push, found}
 use Rattle.tl_base.specs.declared.node.NodeSet.{NodeSet}
 use Rattle.tl_base.specs.NodeSet.{has_node, with_node}
 use Rattle.tl_schema.specs.declared.catalog.Catalog.{Catalog}
@@ -25,7 +26,6 @@ use Rattle.tl_isolation.specs.Step.{Allowed, MayClash, after, awaits_commit, may
 use Rattle.tl_isolation.specs.History.{IsHistoryFrom, state_from}
 use Rattle.tl_isolation.specs.Script.{vanishes_at}
 use Rattle.tl_isolation.specs.Tables.{OpensFitting}
-use Rattle.tl_isolation.proofs.Lookups.{all_filter, all_map, all_push, found}
 use Rattle.tl_protocol.specs.World.{World}
 use Rattle.tl_protocol.specs.Move as move
 use Rattle.tl_protocol.specs.Move.{Move}

@@ -7,6 +7,7 @@ use Rattle.std.proofs.lemmas.List.{length-append}
 use Rattle.std.proofs.lemmas.List.Concat.{flat_map-append}
 use Rattle.std.proofs.lemmas.List.Elements.{filter_map-append}
 use Rattle.std.proofs.lemmas.List.Folds.{list_any-append}
+use Rattle.std.proofs.lemmas.Bool.{or_left, or_right}
 use Rattle.tl_isolation.specs.declared.entry.Entry.{Entry}
 use Rattle.tl_isolation.specs.declared.script.Script.{Script}
 use Rattle.tl_isolation.specs.declared.script.Session.{Session}
@@ -20,18 +21,10 @@ use Rattle.tl_journal.specs.Schedule.{is_done, is_finished, is_over}
 larger : (n a b c : ℕ) → c ≡ a + b → nat_le n a ≡ true → nat_le n c ≡ true
 larger n a b c e h = grind (arith, nat_tests)
 
-pub left_true : (a b : Bool) → a ≡ true → (a || b) ≡ true
-left_true true b e = refl
-left_true false b e = absurd cc
-
-pub right_true : (a b : Bool) → b ≡ true → (a || b) ≡ true
-right_true true b e = refl
-right_true false b e = e
-
 -- either side of a test stays true
 either : (a b c d : Bool) → (a ≡ true → c ≡ true) → (b ≡ true → d ≡ true) → (a || b) ≡ true → (c || d) ≡ true
-either true b c d f g e = left_true c d (f refl)
-either false b c d f g e = right_true c d (g e)
+either true b c d f g e = or_left c d (f refl)
+either false b c d f g e = or_right c d (g e)
 
 module _ (script : Script) (past more : List Event) where
   answers_grow : (node : ℕ)
@@ -53,7 +46,7 @@ module _ (script : Script) (past more : List Event) where
       by (Some session) e = rw e (reached node (length session.statements) (rw e at h))
 
   pub vanished_stays : (node : ℕ) → has_vanished past node ≡ true → has_vanished (past ++ more) node ≡ true
-  vanished_stays node h = list_any-append (posts node) past more ∙ left_true (has_vanished past node) (has_vanished more node) h
+  vanished_stays node h = list_any-append (posts node) past more ∙ or_left (has_vanished past node) (has_vanished more node) h
 
   pub over_stays : (node : ℕ) → is_over script past node ≡ true → is_over script (past ++ more) node ≡ true
   over_stays node h =

@@ -4,7 +4,7 @@ use Rattle.std.specs.Prelude.{◌^◌, nat_le}
 use Rattle.std.specs.List.{list_any}
 use Rattle.std.proofs.lemmas.Bool.{both_ways, or_cases}
 use Rattle.std.proofs.lemmas.Bool.Decides.{nat_tests}
-use Rattle.std.proofs.lemmas.List.{length-append}
+use Rattle.std.proofs.lemmas.List.{length-append, length_push}
 use Rattle.tl_base.specs.Along.{Along}
 use Rattle.tl_base.specs.declared.node.NodeSet.{NodeSet}
 use Rattle.tl_base.specs.declared.place.Settings.{Settings}
@@ -32,7 +32,6 @@ use Rattle.tl_journal.proofs.Speaking.{SpeakIs, opening_speaks}
 use Rattle.tl_journal.proofs.Spoken.{Spoken, cut_spoken, post_spoken, request_spoken}
 use Rattle.tl_journal.proofs.Store.{LogIs}
 use Rattle.tl_journal.proofs.StoreLogs.{cell_in}
-use Rattle.tl_journal.proofs.StoreEvents.{length_next}
 use Rattle.tl_journal.proofs.Stood.{Stood}
 
 module _ (script : Script) (settings : Settings) (bound : IsBound script settings) (shards : 1 ≤ settings.shards) (managers : 1 ≤ settings.managers) where
@@ -86,7 +85,7 @@ module _ (script : Script) (settings : Settings) (bound : IsBound script setting
   along past (e ∷ now) later s served events few =
       let whole : (past ++ e ∷ now) ++ later ≡ past ++ e ∷ (now ++ later) = append_assoc past (e ∷ now) later in
       let front : (past ++ e ∷ []) ++ now ≡ past ++ e ∷ now = append_assoc past (e ∷ []) now in
-      let longer : length (past ++ e ∷ []) ≡ length past + 1 = length_next past e in
+      let longer : length (past ++ e ∷ []) ≡ length past + 1 = length_push past e in
       subst Stands front
       (along (past ++ e ∷ []) now later (next past e (now ++ later) s (subst (AreServed script settings) whole served) events.0 (omega arith))
       (subst (λ (es : List Event). AreServed script settings (es ++ later)) (sym front) served) events.1 (omega arith))

@@ -5,40 +5,25 @@ use Rattle.std.specs.Cmp.Lexicographic.{nat_list_cmp_total}
 use Rattle.std.specs.FinMap.{nat_cmp-IsAntisymmetric, slice_cmp-IsAntisymmetric}
 use Rattle.std.specs.Ordering.{is_eq, is_lt, nat_cmp, ordering_reverse, ordering_then}
 use Rattle.std.proofs.lemmas.Bool.{eq-eqb, false_from_ne_true}
+use Rattle.tl_lemmas.proofs.Orders.{equal_is, less_is}
 use Rattle.tl_plan.specs.Access.{is_below}
 use Rattle.tl_write.specs.Own.{key_cmp}
 use Rattle.tl_write.specs.Tables.{is_in}
 use Rattle.tl_protocol.specs.Store.{Key, same_key}
 use Rattle.tl_journal.specs.Reads.{table_key}
-
-equal : (o : Ordering) → is_eq o ≡ true → o ≡ Equal
-equal Less h = absurd cc
-equal Equal h = refl
-equal Greater h = absurd cc
-
-less : (o : Ordering) → is_lt o ≡ true → o ≡ Less
-less Less h = refl
-less Equal h = absurd cc
-less Greater h = absurd cc
-
--- keys that tie are one
-pub tie : (k l : Key) → same_key k l ≡ true → k ≡ l
-tie k l h = slice_cmp-IsAntisymmetric nat_cmp-IsAntisymmetric k l (equal (key_cmp k l) h)
-
-pub same_itself : (k : Key) → same_key k k ≡ true
-same_itself k = ap is_eq (tied_itself nat_list_cmp_total k)
+use Rattle.tl_write.proofs.Keys.{key_eq, key_itself}
 
 pub below_itself : (k : Key) → is_below k k ≡ false
 below_itself k = ap is_lt (tied_itself nat_list_cmp_total k)
 
 -- a at most b, and b at most c
 pub at_least : (a b c : Key) → is_below b a ≡ false → is_below c b ≡ false → is_below c a ≡ false
-at_least a b c p q = false_from_ne_true (is_below c a) (λ e. one (key_cmp b a) refl (less (key_cmp c a) e))
+at_least a b c p q = false_from_ne_true (is_below c a) (λ e. one (key_cmp b a) refl (less_is (key_cmp c a) e))
   where
     one : (o : Ordering) → key_cmp b a ≡ o → key_cmp c a ≡ Less → ⊥
     one Less i e = let j : is_below b a ≡ true = ap is_lt i in absurd cc
     one Equal i e =
-        let same : b ≡ a = tie b a (ap is_eq i) in
+        let same : b ≡ a = key_eq b a (ap is_eq i) in
         let j : is_below c b ≡ true = ap is_lt (ap (key_cmp c) same ∙ e) in
         absurd cc
     one Greater i e =

@@ -1,86 +1,86 @@
-pub mod Accepted
-pub mod Alone
+mod Accepted
+mod Alone
 pub mod Asking
-pub mod Attempts
-pub mod Begins
-pub mod ChangeSizes
-pub mod Claims
-pub mod ClaimsMade
-pub mod ClashSays
+mod Attempts
+mod Begins
+mod ChangeSizes
+mod Claims
+mod ClaimsMade
+mod ClashSays
 pub mod CutShort
-pub mod CutSpoken
-pub mod Dispatch
+mod CutSpoken
+mod Dispatch
 pub mod Elsewhere
-pub mod Endings
-pub mod Ends
-pub mod Examples
-pub mod Facts
+mod Endings
+mod Ends
+mod Examples
+mod Facts
 pub mod FirstCommits
-pub mod Fits
-pub mod ForKeyTests
-pub mod Goings
-pub mod Gone
+mod Fits
+mod ForKeyTests
+mod Goings
+mod Gone
 pub mod Grows
-pub mod Heeded
+mod Heeded
 pub mod InOrder
-pub mod Insides
+mod Insides
 pub mod Journals
 pub mod KeyOrder
-pub mod Keyed
+mod Keyed
 pub mod Logs
-pub mod LostKeys
-pub mod Lows
-pub mod ManagerPremises
-pub mod ManagerServes
-pub mod Managers
-pub mod Meets
+mod LostKeys
+mod Lows
+mod ManagerPremises
+mod ManagerServes
+mod Managers
+mod Meets
 pub mod Named
-pub mod NoneLeft
+mod NoneLeft
 pub mod Opens
-pub mod Owed
-pub mod OwnHeld
+mod Owed
+mod OwnHeld
 pub mod OwnKeyed
-pub mod OwnWrites
+mod OwnWrites
 pub mod Posted
-pub mod Present
-pub mod ReadSizes
+mod Present
+mod ReadSizes
 pub mod Records
-pub mod Recovered
-pub mod RecoveredServed
-pub mod Recoveries
-pub mod RecoveriesWhole
-pub mod RecoverySays
+mod Recovered
+mod RecoveredServed
+mod Recoveries
+mod RecoveriesWhole
+mod RecoverySays
 pub mod Requests
-pub mod RivalsStand
-pub mod RowSizes
-pub mod Seen
-pub mod Shards
+mod RivalsStand
+mod RowSizes
+mod Seen
+mod Shards
 pub mod Sizes
 pub mod Speaking
-pub mod Spoken
-pub mod Stated
-pub mod Statements
+mod Spoken
+mod Stated
+mod Statements
 pub mod Stood
 pub mod Store
-pub mod StoreEvents
+mod StoreEvents
 pub mod StoreLogs
 pub mod StoreOpening
-pub mod StorePage
-pub mod StorePages
-pub mod StoreRanges
-pub mod StoreServes
-pub mod StoreStays
-pub mod StrangeCounts
-pub mod StrangeExamples
+mod StorePage
+mod StorePages
+mod StoreRanges
+mod StoreServes
+mod StoreStays
+mod StrangeCounts
+mod StrangeExamples
 pub mod StrangeHeard
-pub mod StrangeLefts
-pub mod StrangeOdd
+mod StrangeLefts
+mod StrangeOdd
 pub mod StrangeReplies
 pub mod StrangeSound
 pub mod StrangeStops
-pub mod StrangeTells
-pub mod Together
-pub mod Unbound
-pub mod Unlawful
-pub mod Unsaid
-pub mod Vanishes
+mod StrangeTells
+mod Together
+mod Unbound
+mod Unlawful
+mod Unsaid
+mod Vanishes

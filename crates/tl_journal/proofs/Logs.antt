@@ -24,6 +24,7 @@ use Rattle.tl_isolation.specs.Step.{after}
 use Rattle.tl_journal.specs.declared.event.Event.{Event}
 use Rattle.tl_journal.specs.Journal.{AreServed, after_event, entries_told, has_vanished, manager_call, manager_log, node_after, node_from, opening_calls, posts, shard_call, shard_log}
 use Rattle.tl_journal.specs.Node.{Node, opening_node}
+use Rattle.tl_protocol.proofs.Reached.{state_append}
 
 flat_append : {A B : Type 0} (f : A → List B) (xs ys : List A) → flat_map f (xs ++ ys) ≡ flat_map f xs ++ flat_map f ys
 flat_append f [] ys = refl
@@ -67,10 +68,6 @@ any_one p (y ∷ ys) x = ap (λ b. p y || b) (any_one p ys x) ∙ on (p y) (list
 
 pub vanished_more : (past : List Event) (e : Event) (n : ℕ) → has_vanished (past ++ e ∷ []) n ≡ (has_vanished past n || posts n e)
 vanished_more past e n = any_one (posts n) past e
-
-state_append : (catalog : Catalog) (s : SiState) (es ds : List Entry) → state_from catalog s (es ++ ds) ≡ state_from catalog (state_from catalog s es) ds
-state_append catalog s [] ds = refl
-state_append catalog s (e ∷ es) ds = state_append catalog (after catalog s e) es ds
 
 pub state_more : (script : Script) (settings : Settings) (past : List Event) (e : Event)
     → state_after (setup_of script settings) (entries_told (past ++ e ∷ []))

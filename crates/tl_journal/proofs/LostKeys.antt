@@ -5,13 +5,14 @@ use Rattle.std.specs.List.{list_all}
 use Rattle.std.specs.Ordering.{is_eq, is_lt}
 use Rattle.std.specs.Cmp.Lexicographic.{nat_list_cmp_total}
 use Rattle.std.proofs.lemmas.List.Folds.{list_any-append}
+use Rattle.tl_lemmas.proofs.Orders.{less_is}
 use Rattle.tl_logrec.specs.Entry.{are_rising, rise_from}
 use Rattle.tl_write.specs.Own.{key_cmp}
-use Rattle.tl_write.proofs.Rising.{less, turned}
+use Rattle.tl_write.proofs.Rising.{turned}
 use Rattle.tl_protocol.specs.Store.{Key, put_at, same_key}
 use Rattle.tl_protocol.specs.Move.{is_named}
-use Rattle.tl_protocol.proofs.Cells.{key_eq, key_itself}
 use Rattle.tl_journal.proofs.Meets.{IsPartOf, seen_but}
+use Rattle.tl_write.proofs.Keys.{key_eq, key_itself}
 
 -- ---- what the log cell names
 
@@ -66,10 +67,10 @@ above_apart low key [] back l h = none (same_key key low) (apart low key l)
     unequal o e = ap is_eq e
 
     apart : (low key : Key) → is_lt (key_cmp low key) ≡ true → same_key key low ≡ false
-    apart low key l = unequal (key_cmp key low) (turned low key Less (less (key_cmp low key) l))
+    apart low key l = unequal (key_cmp key low) (turned low key Less (less_is (key_cmp low key) l))
 above_apart low key (next ∷ keys) back l h =
     both (same_key key low) (same_key next low || is_named low keys) (apart low key l)
-    (above_apart low next keys back (ap is_lt (nat_list_cmp_total.trans low key next (less (key_cmp low key) l) (less (key_cmp key next) (first (is_lt (key_cmp key next)) (rise_from next (keys ++ back)) h))))
+    (above_apart low next keys back (ap is_lt (nat_list_cmp_total.trans low key next (less_is (key_cmp low key) l) (less_is (key_cmp key next) (first (is_lt (key_cmp key next)) (rise_from next (keys ++ back)) h))))
     (second (is_lt (key_cmp key next)) (rise_from next (keys ++ back)) h))
   where
     both : (x y : Bool) → x ≡ false → y ≡ false → (x || y) ≡ false
@@ -85,7 +86,7 @@ above_apart low key (next ∷ keys) back l h =
     unequal o e = ap is_eq e
 
     apart : (low key : Key) → is_lt (key_cmp low key) ≡ true → same_key key low ≡ false
-    apart low key l = unequal (key_cmp key low) (turned low key Less (less (key_cmp low key) l))
+    apart low key l = unequal (key_cmp key low) (turned low key Less (less_is (key_cmp low key) l))
 
 rise_apart : (key : Key) (keys back : List Key) → rise_from key (keys ++ back) ≡ true → is_named key keys ≡ false
 rise_apart key [] back h = refl

@@ -2,12 +2,13 @@
 use Rattle.std.proofs.Common.{◌≡◌, ◌⊎◌, inl, inr, ℕ, zero, suc, ◌+◌, ◌<◌, ◌≤◌, Bool, true, false, List, [], ◌∷◌, length, slice_get, Some, refl, sym, ◌∙◌, subst, arith}
 use Rattle.std.specs.Prelude.{if◌then◌else◌}
 use Rattle.std.specs.List.{AllByRecursion}
+use Rattle.tl_lemmas.proofs.Lists.{some_at}
 use Rattle.tl_base.specs.declared.place.Settings.{Settings}
 use Rattle.tl_descriptor.specs.Tids.{TidSet, IsCanonical, IsWithin, begins}
-use Rattle.tl_descriptor.proofs.Order.{begins_from_within, begins_itself, begins_on}
+use Rattle.tl_descriptor.proofs.Order.{begins_from_within}
 use Rattle.tl_manager.specs.Floor.{IsChain}
 use Rattle.tl_collect.specs.Floors.{least_of}
-use Rattle.tl_collect.proofs.Least.{IsOrder, begins_all, is_one}
+use Rattle.tl_collect.proofs.Least.{begins_all, is_one}
 use Rattle.tl_protocol.specs.World.{Txn, Fact, World, IsLeast}
 use Rattle.tl_protocol.proofs.Finished.{Finished, Snap}
 use Rattle.tl_protocol.proofs.Sets.{newer_above}
@@ -16,9 +17,6 @@ use Rattle.tl_protocol.proofs.Ledger.{Ledger}
 use Rattle.tl_journal.specs.Reads.{Reads}
 use Rattle.tl_journal.specs.Node.{Node}
 use Rattle.tl_journal.proofs.Meets.{IsLaidOut, NodeIs}
-
-sets_order : IsOrder
-sets_order = record { itself = begins_itself; onward = begins_on }
 
 -- of two known sets one begins the other
 pub one_begins : (a b : TidSet) (ds : List Finished) → Snap a ds → Snap b ds → (begins a b ≡ true) ⊎ (begins b a ≡ true)
@@ -48,12 +46,6 @@ each_place : {A : Type 0} (P : A → Type 0) (xs : List A) → ((j : ℕ) (x : A
 each_place P [] h = tt
 each_place P (x ∷ xs) h = (h zero x refl, each_place P xs (λ j y e. h (suc j) y e))
 
--- there is one at each place
-slot : {A : Type 0} (xs : List A) (j : ℕ) → j < length xs → (x : A) × (slice_get xs j ≡ Some x)
-slot [] j l = absurd (omega arith)
-slot (x ∷ xs) zero l = (x, refl)
-slot (x ∷ xs) (suc j) l = slot xs j (omega arith)
-
 module _ (R : Txn → List Fact → Reads → Type 0) (settings : Settings) (node : Node) (w : World) (n : ℕ) (a : Ledger) (g : Ghost)
     (v : Inv w a g) (o : NodeIs R settings node w n) (laid : IsLaidOut settings w) where
   -- each low-water mark that the node keeps is a known set
@@ -70,9 +62,9 @@ module _ (R : Txn → List Fact → Reads → Type 0) (settings : Settings) (nod
       record {
         is_one = (one.0, below one.0 (length node.floors) one.1 (o.managers ∙ sym laid.top), sym (o.floors one.0 (least_of node.floors) one.2));
         begins_all = λ j l.
-            let s = slot node.floors j (above j (length node.floors) l (o.managers ∙ sym laid.top)) in
+            let s = some_at node.floors j (above j (length node.floors) l (o.managers ∙ sym laid.top)) in
             subst (λ x. begins (least_of node.floors) x ≡ true) (sym (o.floors j s.0 s.1))
-            (begins_all sets_order node.floors j s.0 (known_canonical node.floors g.finished marks_known) (known_chain node.floors g.finished marks_known) s.1);
+            (begins_all node.floors j s.0 (known_canonical node.floors g.finished marks_known) (known_chain node.floors g.finished marks_known) s.1);
       }
     where
       below : (j k : ℕ) → j < k → k ≡ w.top + 1 → j ≤ w.top

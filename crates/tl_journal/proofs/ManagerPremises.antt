@@ -2,6 +2,7 @@
 use Rattle.std.proofs.Common.{◌≡◌, ◌⊎◌, inl, inr, ℕ, ◌+◌, ◌<◌, ◌≤◌, Bool, true, false, cond, List, [], ◌∷◌, ◌++◌, Option, Some, None, refl, sym, ap, ◌∙◌, subst, eq-eqb, arith}
 use Rattle.std.specs.Prelude.{◌==◌, ◌-◌, ◌&&◌, ◌||◌, nat_le, not}
 use Rattle.std.proofs.lemmas.Bool.Decides.{nat_tests}
+use Rattle.std.proofs.lemmas.Option.{same_Some}
 use Rattle.tl_base.specs.NodeSet.{has_node}
 use Rattle.tl_base.specs.declared.node.NodeSet.{NodeSet}
 use Rattle.tl_base.specs.declared.place.PlaceId.{PlaceId}
@@ -20,7 +21,7 @@ use Rattle.tl_protocol.specs.World.{Number, Begun, Carried, Phase, Idle, Noted, 
 use Rattle.tl_protocol.specs.Next.{is_drawn, owed}
 use Rattle.tl_protocol.specs.Stands.{Notice, posted}
 use Rattle.tl_protocol.proofs.Finished.{Finished, Snap}
-use Rattle.tl_protocol.proofs.Frames.{duty_of, some_same}
+use Rattle.tl_protocol.proofs.Frames.{duty_of}
 use Rattle.tl_protocol.proofs.Inv.{ActiveOk, Ghost, Inv, NodeOk, Shared, active_txn, base, nodes_of, shared, vanished_of}
 use Rattle.tl_protocol.proofs.Ledger.{Ledger, Seat}
 use Rattle.tl_protocol.proofs.Sets.{newer_above}
@@ -45,7 +46,7 @@ none_begun : (i : ℕ) (o : Option Active) (x : Active) (numbers : ℕ → Numbe
 none_begun i o x numbers e f = cc
 
 same_begun : (i : ℕ) (y x : Active) (o : Option Active) (numbers : ℕ → Number) → o ≡ Some y → o ≡ Some x → numbers y.tid ≡ Begun i → numbers x.tid ≡ Begun i
-same_begun i y x o numbers e f h = subst (λ (z : Active). numbers z.tid ≡ Begun i) (some_same y x (sym e ∙ f)) h
+same_begun i y x o numbers e f h = subst (λ (z : Active). numbers z.tid ≡ Begun i) (same_Some y x (sym e ∙ f)) h
 
 active_begun : (s : Shared) (i : ℕ) (phase : Phase) (seat : Seat) (o : Option Active) (x : Active) → NodeOk s i phase seat → ActiveOk i phase o → o ≡ Some x → s.numbers x.tid ≡ Begun i
 active_begun s i Idle seat o x v a e = none_begun i o x s.numbers a e

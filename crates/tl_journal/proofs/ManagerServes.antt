@@ -2,16 +2,17 @@
 use Rattle.std.proofs.Common.{◌≡◌, ◌⊎◌, inl, inr, ℕ, zero, suc, ◌+◌, ◌<◌, ◌≤◌, Bool, true, false, cond, List, [], ◌∷◌, ◌++◌, drop, filter, length, length-append, map, Option, Some, None, refl, sym, ap, ◌∙◌, subst, append-nil, arith}
 use Rattle.std.specs.Prelude.{◌==◌, ◌-◌, ◌||◌, not}
 use Rattle.std.specs.List.{AllByRecursion}
-use Rattle.std.proofs.lemmas.Bool.{eq-eqb, eqb-true, eqb-false, ne_eqb}
+use Rattle.std.proofs.lemmas.Bool.{eq-eqb, eqb-false, eqb-true, ne_eqb, not-true, or_parts}
 use Rattle.std.proofs.lemmas.Bool.Decides.{nat_tests}
 use Rattle.std.proofs.lemmas.List.{drop-append-le, map-append}
 use Rattle.std.proofs.lemmas.List.Elements.{filter-append}
 use Rattle.std.proofs.lemmas.List.Folds.{list_any-append}
+use Rattle.std.proofs.lemmas.Option.{same_Some}
+use Rattle.tl_lemmas.proofs.Lists.{all_append, all_both, all_push, weaker}
 use Rattle.tl_base.specs.declared.node.NodeSet.{NodeSet}
 use Rattle.tl_base.specs.declared.place.Settings.{Settings}
 use Rattle.tl_descriptor.specs.Tids.{IsCanonical, TidSet, begins}
 use Rattle.tl_descriptor.specs.declared.run.Run.{Run}
-use Rattle.tl_descriptor.proofs.Order.{begins_both, begins_itself, begins_on}
 use Rattle.tl_manager.specs.declared.active.Active.{Active}
 use Rattle.tl_manager.specs.declared.request.ManagerReply.{ManagerReply}
 use Rattle.tl_manager.specs.declared.request.ManagerReply.TheVariants as told
@@ -25,13 +26,12 @@ use Rattle.tl_manager.specs.Serves.{Call, active_after, begun, begun_by, brought
 use Rattle.tl_manager.specs.State.{begin_reply, claim_reply, end_reply}
 use Rattle.tl_manager.specs.Transactions.{is_active, snapshots_of, tids_of, without}
 use Rattle.tl_manager.proofs.Log.{active-push, copy-push, gone_after}
-use Rattle.tl_manager.proofs.Low.{IsOrder, begins_copy, begins_each}
+use Rattle.tl_manager.proofs.Low.{begins_copy, begins_each}
 use Rattle.tl_manager.proofs.Numbers.{begun-push, brought-push, same_begun, same_brought}
-use Rattle.tl_isolation.proofs.Lookups.{all_push, weaker}
 use Rattle.tl_protocol.specs.Store.{put}
 use Rattle.tl_protocol.specs.World.{Number, Carried, Ready, Begun}
 use Rattle.tl_protocol.specs.Next.{is_drawn, numbered}
-use Rattle.tl_protocol.proofs.Frames.{put_one, put_other, put_same, some_same}
+use Rattle.tl_protocol.proofs.Frames.{put_one, put_other, put_same}
 use Rattle.tl_journal.specs.Law.{AreActive, IsActive, tids_in}
 use Rattle.tl_journal.specs.declared.event.Event.{Event}
 use Rattle.tl_journal.specs.Ask.{Heard, AskManager, Told}
@@ -66,10 +66,6 @@ MayAsk known settings p n m (asked.Claim node) = home_of settings node ≡ m
 
 -- ---- lists
 
-both_all : {X : Type 0} (P Q : X → Type 0) (xs : List X) → AllByRecursion P xs → AllByRecursion Q xs → AllByRecursion (λ x. P x × Q x) xs
-both_all P Q [] p q = tt
-both_all P Q (x ∷ xs) p q = ((p.0, q.0), both_all P Q xs p.1 q.1)
-
 -- facts of snapshots
 of_snapshots : (P : TidSet → Type 0) (xs : List Active) → AllByRecursion (λ (x : Active). P x.snapshot) xs → AllByRecursion P (snapshots_of xs)
 of_snapshots P [] h = tt
@@ -95,9 +91,6 @@ found_of Q n t ts (x ∷ xs) e h = by (x.node == n) refl e (λ f. found_of Q n t
 
 -- ---- the low-water mark
 
-order : IsOrder
-order = record { itself = begins_itself; onward = begins_on; both = begins_both }
-
 chain_from : (known : TidSet → Type 0) → ((s t : TidSet) → known s → known t → (begins s t ≡ true) ⊎ (begins t s ≡ true))
     → (set : TidSet) (sets : List TidSet) → known set → AllByRecursion known sets → AllByRecursion (λ other. (begins set other ≡ true) ⊎ (begins other set ≡ true)) sets
 chain_from known chain set sets k h = weaker known (λ other. (begins set other ≡ true) ⊎ (begins other set ≡ true)) (λ other. chain set other k) sets h
@@ -122,33 +115,25 @@ module _ (known : TidSet → Type 0) (settings : Settings) (p : Parts) (m : ℕ)
       (k, of_snapshots known xs (weaker (IsActive settings p.active m) (λ (x : Active). known x.snapshot) (λ x h. chained.snapshots x.node x h.0) xs v.each)) in
       let fit : AllByRecursion IsCanonical (copy ∷ snapshots_of xs) = weaker known IsCanonical chained.canonical (copy ∷ snapshots_of xs) snaps in
       let below : AllByRecursion (λ (x : Active). IsActive settings p.active m x × (begins (floor_of copy xs) x.snapshot ≡ true)) xs =
-      both_all (IsActive settings p.active m) (λ (x : Active). begins (floor_of copy xs) x.snapshot ≡ true) xs v.each
-      (by_snapshots (λ s. begins (floor_of copy xs) s ≡ true) xs (begins_each order copy xs fit (chain_of known chained.chain (copy ∷ snapshots_of xs) snaps))) in
+      all_both (IsActive settings p.active m) (λ (x : Active). begins (floor_of copy xs) x.snapshot ≡ true) xs v.each
+      (by_snapshots (λ s. begins (floor_of copy xs) s ≡ true) xs (begins_each copy xs fit (chain_of known chained.chain (copy ∷ snapshots_of xs) snaps))) in
       record {
         is_one = floor_is (λ floor. (floor ≡ copy) ⊎ ((d : ℕ) × (x : Active) × (p.active d ≡ Some x) × (home_of settings d ≡ m) × (floor ≡ x.snapshot))) copy xs (inl refl)
             (weaker (IsActive settings p.active m) (λ (y : Active). (y.snapshot ≡ copy) ⊎ ((d : ℕ) × (x : Active) × (p.active d ≡ Some x) × (home_of settings d ≡ m) × (y.snapshot ≡ x.snapshot)))
             (λ y h. inr (y.node, y, h.0, h.1, refl)) xs v.each);
-        begins_copy = begins_copy order copy xs fit;
+        begins_copy = begins_copy copy xs fit;
         begins_active = λ d x is_active at_m.
             let y = found_of (λ (x : Active). IsActive settings p.active m x × (begins (floor_of copy xs) x.snapshot ≡ true)) d x.tid [] xs (v.tids d at_m ∙ ap tids_in is_active) below in
-            let same : y.0 ≡ x = some_same y.0 x (sym y.3.0.0 ∙ ap p.active y.1 ∙ is_active) in
+            let same : y.0 ≡ x = same_Some y.0 x (sym y.3.0.0 ∙ ap p.active y.1 ∙ is_active) in
             subst (λ (z : Active). begins (floor_of copy xs) z.snapshot ≡ true) same y.3.1;
       }
 
 -- ---- the numbers
 
-neither : (a b : Bool) → (a || b) ≡ false → (a ≡ false) × (b ≡ false)
-neither true b e = cc
-neither false b e = (refl, e)
-
-all_append : {X : Type 0} (P : X → Type 0) (xs ys : List X) → AllByRecursion P xs → AllByRecursion P ys → AllByRecursion P (xs ++ ys)
-all_append P [] ys p q = q
-all_append P (x ∷ xs) ys p q = (p.0, all_append P xs ys p.1 q)
-
 -- a number that isn't among them is none of them
 not_among : (t : ℕ) (xs : List ℕ) → members xs t ≡ false → AllByRecursion (λ u. (u == t) ≡ false) xs
 not_among t [] e = tt
-not_among t (x ∷ xs) e = let parts = neither (x == t) (members xs t) e in (parts.0, not_among t xs parts.1)
+not_among t (x ∷ xs) e = let parts = or_parts (x == t) (members xs t) e in (parts.0, not_among t xs parts.1)
 
 distinct_append : (xs ys : List ℕ) → AreDistinct xs → AreDistinct ys → AllByRecursion (λ x. members ys x ≡ false) xs → AreDistinct (xs ++ ys)
 distinct_append [] ys p q h = q
@@ -274,7 +259,7 @@ given_ready : (numbers : ℕ → Number) (n m t : ℕ) (tids : List ℕ) → Are
 given_ready numbers n m t tids v = record {
   each = weaker (λ u. ((u == t) ≡ false) × (numbers u ≡ Ready m)) (λ u. put t (Begun n) numbers u ≡ Ready m)
       (λ u h. put_other t u (Begun n) numbers (λ e. eqb-false u t h.0 (sym e)) ∙ h.1) tids
-      (both_all (λ u. (u == t) ≡ false) (λ u. numbers u ≡ Ready m) tids (not_among t tids v.distinct.0) v.each.1);
+      (all_both (λ u. (u == t) ≡ false) (λ u. numbers u ≡ Ready m) tids (not_among t tids v.distinct.0) v.each.1);
   all = λ u h. by u (t == u) refl h;
   distinct = v.distinct.1;
 }
@@ -285,7 +270,7 @@ given_ready numbers n m t tids v = record {
 
 next_drop : (k : ℕ) (xs : List ℕ) (t : ℕ) → first_of (drop k xs) ≡ Some t → drop k xs ≡ t ∷ drop (suc k) xs
 next_drop zero [] t e = absurd cc
-next_drop zero (x ∷ xs) t e = ap (λ y. y ∷ xs) (some_same x t e)
+next_drop zero (x ∷ xs) t e = ap (λ y. y ∷ xs) (same_Some x t e)
 next_drop (suc k) [] t e = absurd cc
 next_drop (suc k) (x ∷ xs) t e = next_drop k xs t e
 
@@ -373,17 +358,13 @@ all_filter P Q test f (x ∷ xs) h = by (test x) refl (all_filter P Q test f xs 
     by true e rest = (f x h.0 e, rest)
     by false e rest = rest
 
-was_not : (b : Bool) → not b ≡ true → b ≡ false
-was_not true e = cc
-was_not false e = refl
-
 -- the transaction of node d ends
 ended_active : (settings : Settings) (active : ℕ → Option Active) (m : ℕ) (xs : List Active) (d : ℕ) (x : Active) → home_of settings d ≡ m → active d ≡ Some x
     → ((i : ℕ) (y : Active) → active i ≡ Some y → y.tid ≡ x.tid → i ≡ d)
     → AreActive settings active m xs → AreActive settings (put d None active) m (without x.tid xs)
 ended_active settings active m xs d x at_m here one v = record {
   each = all_filter (IsActive settings active m) (IsActive settings (put d None active) m) (λ (y : Active). not (y.tid == x.tid))
-      (λ y h e. (put_other d y.node None active (λ same. differs y h.0 (was_not (y.tid == x.tid) e) (sym same)) ∙ h.0, h.1)) xs v.each;
+      (λ y h e. (put_other d y.node None active (λ same. differs y h.0 (not-true (y.tid == x.tid) e) (sym same)) ∙ h.0, h.1)) xs v.each;
   tids = put_one (λ (k : ℕ) o. home_of settings k ≡ m → tids_of k (without x.tid xs) ≡ tids_in o) d None active
       (λ h. tids_gone d x.tid xs (weaker (IsActive settings active m) (λ (y : Active). y.node ≡ d → (y.tid == x.tid) ≡ true) (λ y h same. eq-eqb y.tid x.tid (its_tid y h.0 same)) xs v.each))
       (λ k ne h. tids_kept k x.tid xs (weaker (IsActive settings active m) (λ (y : Active). y.node ≡ k → (y.tid == x.tid) ≡ false)
@@ -391,7 +372,7 @@ ended_active settings active m xs d x at_m here one v = record {
 }
   where
     its_tid : (y : Active) → active y.node ≡ Some y → y.node ≡ d → y.tid ≡ x.tid
-    its_tid y h same = ap (λ (z : Active). z.tid) (some_same y x (sym h ∙ ap active same ∙ here))
+    its_tid y h same = ap (λ (z : Active). z.tid) (same_Some y x (sym h ∙ ap active same ∙ here))
 
     differs : (y : Active) → active y.node ≡ Some y → (y.tid == x.tid) ≡ false → y.node ≡ d → ⊥
     differs y h e same = eqb-false y.tid x.tid e (its_tid y h same)

@@ -5,6 +5,7 @@ use Rattle.std.specs.List.{AllByRecursion}
 use Rattle.std.proofs.lemmas.Bool.{eq-eqb, eqb-true, eqb-false, ne_eqb}
 use Rattle.std.proofs.lemmas.Bool.Decides.{nat_tests}
 use Rattle.std.proofs.lemmas.List.Concat.{flat_map-append}
+use Rattle.tl_lemmas.proofs.Lists.{weaker}
 use Rattle.tl_base.specs.NodeSet.{has_node}
 use Rattle.tl_base.specs.declared.node.NodeSet.{NodeSet}
 use Rattle.tl_base.specs.declared.place.PlaceId.TheVariants as place
@@ -19,7 +20,6 @@ use Rattle.tl_manager.specs.declared.request.Request.TheVariants as request
 use Rattle.tl_manager.specs.Serves.{Call, active_after, begun, begun_by, brought, brought_by, copy_after, ends, gives, left, notice_after, posted, posted_by, shown, union_of}
 use Rattle.tl_manager.proofs.Log.{active-push, copy-push, posted-push}
 use Rattle.tl_manager.proofs.Numbers.{same_begun, same_brought}
-use Rattle.tl_isolation.proofs.Lookups.{weaker}
 use Rattle.tl_protocol.specs.Run.{Layout, opening_world}
 use Rattle.tl_protocol.specs.Store.{log_stamp, put}
 use Rattle.tl_protocol.specs.World.{Number, Undrawn, Carried, Opening, Ready}
@@ -32,6 +32,8 @@ use Rattle.tl_journal.specs.Journal.{manager_call, manager_log}
 use Rattle.tl_journal.specs.Law.{AreActive, IsActive, tids_in}
 use Rattle.tl_journal.specs.Served.{AreNodes, Parts, Serves, Stores, parts_of, stored_commits, stored_log, stored_record}
 use Rattle.tl_journal.proofs.Meets.{AreDistinct, members}
+use Rattle.tl_protocol.proofs.Managers.{drawn_above}
+use Rattle.tl_journal.proofs.Logs.{manager_more}
 
 -- ---- the invariant
 
@@ -111,18 +113,13 @@ manager_agrees settings log p q m same v = record {
   notices = λ n h. subst (λ o. NoticeIs o (notice_after log n)) (same.notices n h) (v.notices n h);
 }
 
-log-push : (m : ℕ) (past : List Event) (e : Event) → manager_log m (past ++ e ∷ []) ≡ manager_log m past ++ manager_call m e.place e.request e.reply
-log-push m past e =
-    flat_map-append (λ (d : Event). manager_call m d.place d.request d.reply) past (e ∷ [])
-    ∙ ap (λ (calls : List Call). manager_log m past ++ calls) (append-nil (manager_call m e.place e.request e.reply))
-
 -- an event that no manager has in its log
 pub managers_agree : (settings : Settings) (past : List Event) (e : Event) (p q : Parts) → ((m : ℕ) → manager_call m e.place e.request e.reply ≡ [])
     → ((m : ℕ) → Agrees settings p q m) → ManagersAre settings past p → ManagersAre settings (past ++ e ∷ []) q
 managers_agree settings past e p q none same v = record {
   each = λ m l.
       let log : manager_log m (past ++ e ∷ []) ≡ manager_log m past =
-      log-push m past e ∙ ap (λ (calls : List Call). manager_log m past ++ calls) (none m) ∙ append-nil (manager_log m past) in
+      manager_more m past e ∙ ap (λ (calls : List Call). manager_log m past ++ calls) (none m) ∙ append-nil (manager_log m past) in
       subst (λ (calls : List Call). ManagerIs settings calls q m) (sym log) (manager_agrees settings (manager_log m past) p q m (same m) (v.each m l));
 }
 
@@ -141,7 +138,7 @@ pub managers_after : (settings : Settings) (past : List Event) (e : Event) (p q 
     → ManagersAre settings past p → ManagersAre settings (past ++ e ∷ []) q
 managers_after settings past e p q m c i here others v = record {
   each = λ j l.
-      subst (λ (calls : List Call). ManagerIs settings calls q j) (sym (log-push j past e ∙ ap (λ (calls : List Call). manager_log j past ++ calls) (call_is e m c i j)))
+      subst (λ (calls : List Call). ManagerIs settings calls q j) (sym (manager_more j past e ∙ ap (λ (calls : List Call). manager_log j past ++ calls) (call_is e m c i j)))
       (by j (m == j) refl l);
 }
   where
@@ -172,16 +169,13 @@ managers_stay settings past e p q s at_shard copies numbers active notices v =
 undrawn_ready : (m : ℕ) → Undrawn ≡ Ready m → ⊥
 undrawn_ready m e = cc
 
-drawn_over : (low t : ℕ) → is_drawn low t ≡ true → low < t
-drawn_over low t e = grind (arith, nat_tests)
-
 -- a number that is ready is none of those that are drawn
 still_ready : (numbers : ℕ → Number) (counter n m t : ℕ) → ((u : ℕ) → counter < u → numbers u ≡ Undrawn) → numbers t ≡ Ready m
     → numbered counter (Carried n) numbers t ≡ Ready m
 still_ready numbers counter n m t undrawn ready = by (is_drawn counter t) refl
   where
     by : (b : Bool) → is_drawn counter t ≡ b → cond b (Carried n) (numbers t) ≡ Ready m
-    by true drawn = absurd (undrawn_ready m (sym (undrawn t (drawn_over counter t drawn)) ∙ ready))
+    by true drawn = absurd (undrawn_ready m (sym (undrawn t (drawn_above counter t drawn)) ∙ ready))
     by false other = ready
 
 was_ready : (numbers : ℕ → Number) (counter n m t : ℕ) → numbered counter (Carried n) numbers t ≡ Ready m → numbers t ≡ Ready m

@@ -2,6 +2,7 @@
 use Rattle.std.proofs.Common.{◌≡◌, ℕ, ◌≤◌, Bool, true, false, ⊎_elim, List, [], ◌∷◌, Option, Some, None, refl, ap, ◌∙◌, subst}
 use Rattle.std.specs.Prelude.{◌==◌, ◌&&◌, ◌||◌, nat_le}
 use Rattle.std.proofs.lemmas.Bool.{both_ways, eqb-true}
+use Rattle.std.proofs.lemmas.Option.{same_Some}
 use Rattle.tl_base.specs.NodeSet.{has_node}
 use Rattle.tl_base.specs.declared.place.Settings.{Settings}
 use Rattle.tl_schema.specs.declared.catalog.Setup.{Setup}
@@ -14,7 +15,6 @@ use Rattle.tl_protocol.specs.World.{Phase, Idle, Noted, Drawn, Live, Trying, Und
 use Rattle.tl_protocol.specs.World as protocol
 use Rattle.tl_protocol.specs.Run.{Layout}
 use Rattle.tl_protocol.proofs.Duties.{active_none, active_part, none_held, put_cases}
-use Rattle.tl_protocol.proofs.Frames.{some_same}
 use Rattle.tl_protocol.proofs.Inv.{ActiveOk, Ghost, Inv, Owes, RecoveryOk, base, shared, tid_of}
 use Rattle.tl_protocol.proofs.Ledger.{Ledger}
 use Rattle.tl_protocol.proofs.Reached.{Reached, reached}
@@ -79,7 +79,7 @@ module _ (R : Txn → List Fact → Reads → Type 0) (layout : Layout) (setup :
       let know : RecoveryOk (base w) r.ghost.phases (protocol.Closed k.0 (orphan_of o)) =
       recovery_at w r.ledger r.ghost r.inv n (protocol.Closed k.0 (orphan_of o)) (record { runs = b.runs; so_far = k.1 }) in
       put_cases (λ y. y ≡ None) o.node d None w.active (λ e. refl)
-      (λ ne. duty_none w r.ledger r.ghost r.inv k.0 (Some o.node) know.0 d (k.2.all d ∙ given) (k.2.left d) (λ e. ne (some_same o.node d e)))
+      (λ ne. duty_none w r.ledger r.ghost r.inv k.0 (Some o.node) know.0 d (k.2.all d ∙ given) (k.2.left d) (λ e. ne (same_Some o.node d e)))
 
   -- it is active at its manager till then
   pub closed_active : (c : Claimed) (o : Lost) → RecoveryIs (EndingLost c o) (w.recoveries n) → (x : Active) × (w.active o.node ≡ Some x) × (x.tid ≡ o.tid)

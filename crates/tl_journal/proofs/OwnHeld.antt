@@ -1,5 +1,6 @@
 -- The transactions that a node finishes, its own and those of vanished nodes, as the machine of snapshot isolation holds them.
 use Rattle.std.proofs.Common.{◌≡◌, ℕ, Bool, true, List, Option, Some, None, refl, sym, ap, ◌∙◌, subst, ⊎_elim}
+use Rattle.std.proofs.lemmas.Option.{same_Some}
 use Rattle.tl_base.specs.declared.place.Settings.{Settings}
 use Rattle.tl_schema.specs.declared.catalog.Setup.{Setup}
 use Rattle.tl_isolation.specs.declared.entry.Answer.{Answer}
@@ -13,7 +14,7 @@ use Rattle.tl_protocol.specs.Store.{CommitsCell, Key}
 use Rattle.tl_protocol.specs.World.{Number, Begun, Txn, Fact, Decision, Commit as ToCommit, Undo, Phase, Idle, Noted, Drawn, Live, Trying, Undoing, Closing, Ending, Duties, Finishing, Orphan, World}
 use Rattle.tl_protocol.specs.Next.{owed}
 use Rattle.tl_protocol.specs.Run.{Layout}
-use Rattle.tl_protocol.proofs.Frames.{duty_of, some_same}
+use Rattle.tl_protocol.proofs.Frames.{duty_of}
 use Rattle.tl_protocol.proofs.Inv.{Inv, NodeOk, Shared, TxnOk, base, held_txn, is_opened, nodes_of, shared, vanished_of}
 use Rattle.tl_protocol.proofs.Ledger.{Seat}
 use Rattle.tl_protocol.proofs.Reached.{Reached, reached}
@@ -24,6 +25,7 @@ use Rattle.tl_journal.specs.Reads.{Reads}
 use Rattle.tl_journal.specs.Node.{Node}
 use Rattle.tl_journal.proofs.Gone.{gone_lost}
 use Rattle.tl_journal.proofs.Meets.{Before}
+use Rattle.tl_protocol.proofs.Borne.{begun_once}
 
 -- a held transaction of this number is the one of this node, with this rival
 abbrev pub IsOwn : SiState → ℕ → Txn → Option ℕ → Type 0
@@ -42,7 +44,7 @@ held_begun s i p seat h o e = by p o
 
     so : (t : Txn) (stored : Key → Bool) (q : TxnPhase) (b : Bool) (r : Option ℕ) → TxnOk s i t stored seat.held q b r → s.numbers h.tid ≡ Begun i
     so t stored q b r o =
-        let x : held_txn i o.first t q b r ≡ h = some_same (held_txn i o.first t q b r) h (sym o.is_held ∙ e) in
+        let x : held_txn i o.first t q b r ≡ h = same_Some (held_txn i o.first t q b r) h (sym o.is_held ∙ e) in
         subst (λ (y : Transaction). s.numbers y.tid ≡ Begun i) x o.begun
 
     by : (p : Phase) → NodeOk s i p seat → s.numbers h.tid ≡ Begun i
@@ -60,9 +62,6 @@ closing_begun : (s : Shared) (i : ℕ) (t : Txn) (d : Decision) (c : Option Comm
 closing_begun s i t ToCommit c seat o = o.txn.begun
 closing_begun s i t (Undo r) c seat o = o.txn.begun
 
-begun_once : (x : Number) (i j : ℕ) → x ≡ Begun i → x ≡ Begun j → i ≡ j
-begun_once x i j e f = cc
-
 module _ (R : Txn → List Fact → Reads → Type 0) (layout : Layout) (setup : Setup) (settings : Settings) (w : World) (state : SiState) (entries : List Entry)
     (n : ℕ) (node : Node) (b : Before R layout setup settings w state entries n node) where
   own_txn : (r : Reached setup w state entries) (t : Txn) (stored : Key → Bool) (p : TxnPhase) (tried : Bool) (rival : Option ℕ)
@@ -71,7 +70,7 @@ module _ (R : Txn → List Fact → Reads → Type 0) (layout : Layout) (setup :
       subst (λ s. IsOwn s n t rival) r.state (λ h e.
       let own : Transaction = held_txn n o.first t p tried rival in
       let x : h ≡ own =
-      some_same h own (sym e ∙ held_by_number state r.ledger r.shows n (numbered w r.ledger r.ghost r.inv n b.runs) own o.is_held) in
+      same_Some h own (sym e ∙ held_by_number state r.ledger r.shows n (numbered w r.ledger r.ghost r.inv n b.runs) own o.is_held) in
       (ap (λ (y : Transaction). y.opened) x, ap (λ (y : Transaction). y.node) x, ap (λ (y : Transaction). y.rival) x))
 
   -- a running transaction

@@ -1,5 +1,6 @@
 -- The rows that a running transaction has written stand under their own record keys.
 use Rattle.std.proofs.Common.{◌≡◌, ℕ, ◌≤◌, List, [], Some, ap, ◌∙◌, subst}
+use Rattle.tl_lemmas.proofs.Lists.{weaker}
 use Rattle.tl_base.specs.declared.place.Settings.{Settings}
 use Rattle.tl_values.specs.declared.value.Value.{Value}
 use Rattle.tl_schema.specs.declared.catalog.Catalog.{Catalog}
@@ -11,7 +12,6 @@ use Rattle.tl_isolation.specs.declared.state.SiState.{SiState}
 use Rattle.tl_isolation.specs.History.{state_after}
 use Rattle.tl_isolation.specs.Script.{setup_of}
 use Rattle.tl_isolation.specs.Tables.{IsHome, table_of}
-use Rattle.tl_isolation.proofs.Lookups.{weaker}
 use Rattle.tl_protocol.specs.World.{Txn, Fact, World}
 use Rattle.tl_protocol.specs.Run.{Layout}
 use Rattle.tl_protocol.proofs.Shown.{AreHomeWrites}

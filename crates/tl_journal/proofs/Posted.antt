@@ -1,9 +1,10 @@
 -- Where a node stands before it makes a request or vanishes, and that the protocol goes on where it vanishes.
 use Rattle.std.proofs.Common.{◌≡◌, ℕ, ◌<◌, ◌≤◌, Bool, true, false, List, [], ◌∷◌, ◌++◌, Some, refl, sym, ap, ◌∙◌, subst, arith}
 use Rattle.std.specs.Prelude.{◌==◌, ◌-◌, ◌&&◌, ◌||◌, not}
-use Rattle.std.proofs.lemmas.Bool.{eq-eqb, eqb-true, eqb-false, ne_eqb}
+use Rattle.std.proofs.lemmas.Bool.{and_from, and_left, eq-eqb, eqb-false, eqb-true, ne_eqb, or_right}
 use Rattle.std.proofs.lemmas.Bool.Decides.{nat_tests}
 use Rattle.std.proofs.lemmas.Nat.{mod_below}
+use Rattle.tl_lemmas.proofs.Tests.{or_first, or_without}
 use Rattle.tl_base.specs.declared.node.NodeSet.{NodeSet}
 use Rattle.tl_base.specs.declared.place.PlaceId.{PlaceId}
 use Rattle.tl_base.specs.declared.place.PlaceId.TheVariants as place
@@ -72,7 +73,7 @@ numbers layout script settings past s n session is_session stays =
 -- ---- the event
 
 -- what a manager replies to its request is a manager's reply
-replies : (m : ℕ) (asks : ManagerRequest) (at : PlaceId) (r : Request) (p : Reply) → IsCall at r p → at ≡ place.Manager m → r ≡ request.Manager asks
+pub replies : (m : ℕ) (asks : ManagerRequest) (at : PlaceId) (r : Request) (p : Reply) → IsCall at r p → at ≡ place.Manager m → r ≡ request.Manager asks
     → (answer : ManagerReply) × (p ≡ reply.Manager answer)
 replies m asks (place.Shard s) r p h at asked_so = cc
 replies m asks (place.Manager k) (request.Store r) p h at asked_so = cc
@@ -86,29 +87,14 @@ home_among settings n some = mod_below (n - 1) settings.managers (omega arith)
 posting : (asks : NodeSet) (n : ℕ) (r : Request) → r ≡ request.Manager (asked.Post n asks) → is_post r ≡ true
 posting asks n r e = ap is_post e
 
-or_true : (a b : Bool) → b ≡ true → (a || b) ≡ true
-or_true a b e = grind arith
-
-or_false : (a b : Bool) → b ≡ false → (a || b) ≡ a
-or_false a b e = grind arith
-
-or_before : (a b : Bool) → (a || b) ≡ false → a ≡ false
-or_before a b e = grind arith
-
-both_true : (a b : Bool) → a ≡ true → b ≡ true → (a && b) ≡ true
-both_true a b e f = grind arith
-
-first_false : (a b : Bool) → a ≡ false → (a && b) ≡ false
-first_false a b e = grind arith
-
 -- who has vanished after the notice of a node was posted: the node, and those before
 gone_now : (past : List Event) (e : Event) (gone : Bool) → is_post e.request ≡ true → gone ≡ true → gone ≡ has_vanished (past ++ e ∷ []) e.node
 gone_now past e gone post h =
-    h ∙ sym (vanished_more past e e.node ∙ or_true (has_vanished past e.node) (posts e.node e) (both_true (e.node == e.node) (is_post e.request) (eq-eqb e.node e.node refl) post))
+    h ∙ sym (vanished_more past e e.node ∙ or_right (has_vanished past e.node) (posts e.node e) (and_from (e.node == e.node) (is_post e.request) (eq-eqb e.node e.node refl) post))
 
 gone_before : (past : List Event) (e : Event) (n : ℕ) → (e.node ≡ n → ⊥) → has_vanished (past ++ e ∷ []) n ≡ has_vanished past n
 gone_before past e n ne =
-    vanished_more past e n ∙ or_false (has_vanished past n) (posts n e) (first_false (e.node == n) (is_post e.request) (ne_eqb e.node n ne))
+    vanished_more past e n ∙ or_without (has_vanished past n) (posts n e) (and_left (e.node == n) (is_post e.request) (ne_eqb e.node n ne))
 
 -- where the protocol stands after a node has vanished
 pub post_stood : (layout : Layout) (script : Script) (settings : Settings) (past : List Event) (e : Event) (rest : List Event)
@@ -128,7 +114,7 @@ post_stood layout script settings past e rest s bound served post = record {
   few = few;
   nodes = λ n session is_session stays.
       still_stands layout script settings past e s v.world n session is_session
-      (or_before (has_vanished past n) (posts n e) (sym (vanished_more past e n) ∙ stays))
+      (or_first (has_vanished past n) (posts n e) (sym (vanished_more past e n) ∙ stays))
       (of_post e.node (node_after settings script past session).number (is_post e.request) is_so) (v.others n);
 }
   where

@@ -1,5 +1,6 @@
 -- What was read is what was read for the present statement.
 use Rattle.std.proofs.Common.{◌≡◌, ℕ, false, List, [], ◌∷◌, Some, sym, ◌∙◌, subst}
+use Rattle.std.proofs.lemmas.Option.{same_Some}
 use Rattle.tl_base.specs.declared.place.Settings.{Settings}
 use Rattle.tl_schema.specs.declared.catalog.Catalog.{Catalog}
 use Rattle.tl_schema.specs.declared.catalog.Setup.{Setup}
@@ -9,7 +10,6 @@ use Rattle.tl_isolation.specs.declared.entry.Entry.{Entry}
 use Rattle.tl_isolation.specs.declared.state.SiState.{SiState}
 use Rattle.tl_protocol.specs.World.{Txn, Fact, World}
 use Rattle.tl_protocol.specs.Run.{Layout}
-use Rattle.tl_protocol.proofs.Frames.{some_same}
 use Rattle.tl_journal.specs.Ask.{Ask, Heard}
 use Rattle.tl_journal.specs.Reads.{Reads}
 use Rattle.tl_journal.specs.Node.{Doing, Node}
@@ -88,7 +88,7 @@ module _ (layout : Layout) (setup : Setup) (settings : Settings) where
 
   -- it is shown of the one request that the node makes, under its own number
   pub steps_for_as : (node : Node) (ask : Ask) → asks settings setup.catalog node ≡ Some ask → StepsForAs node.number node ask → StepsFor node
-  steps_for_as node ask e h n other f = subst (λ a. StepsForAs n node a) (some_same ask other (sym e ∙ f)) (renumber node n ask h)
+  steps_for_as node ask e h n other f = subst (λ a. StepsForAs n node a) (same_Some ask other (sym e ∙ f)) (renumber node n ask h)
 
   -- the node with these statements left, doing this
   pub steps_for_at : (node : Node) (todo : List Bound) (doing : Doing) → node.todo ≡ todo → node.doing ≡ doing

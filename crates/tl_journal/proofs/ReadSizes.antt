@@ -4,6 +4,7 @@ use Rattle.std.specs.Option.{option_to_list}
 use Rattle.std.specs.List.{AllByRecursion, cons_option}
 use Rattle.std.specs.Ordering.{is_lt, ordering_then}
 use Rattle.std.proofs.lemmas.Bool.{both_ways, cases_lt, eq-eqb, eqb-true}
+use Rattle.tl_lemmas.proofs.Lists.{all_append, all_mapped, all_push}
 use Rattle.tl_base.specs.declared.place.Settings.{Settings}
 use Rattle.tl_values.specs.declared.value.Value.{Value}
 use Rattle.tl_values.proofs.Digits.{nat_greater, nat_less}
@@ -18,7 +19,6 @@ use Rattle.tl_write.specs.Own.{key_cmp}
 use Rattle.tl_isolation.specs.declared.bound.Bound.{Bound}
 use Rattle.tl_isolation.specs.declared.bound.Bound.TheVariants as bound
 use Rattle.tl_isolation.specs.Tables.{table_of}
-use Rattle.tl_isolation.proofs.Lookups.{all_push}
 use Rattle.tl_plan.specs.Access.{access_of, accesses_of}
 use Rattle.tl_plan.specs.Plan.{is_looked_up, numbers_of}
 use Rattle.tl_protocol.specs.Store.{Key, row_shown}
@@ -35,14 +35,6 @@ AreReads reads = AllByRecursion ReadFits reads
 
 abbrev AreRows : List (List Value) → Type 0
 AreRows rows = AllByRecursion RowFits rows
-
-all_append : {X : Type 0} (P : X → Type 0) (xs ys : List X) → AllByRecursion P xs → AllByRecursion P ys → AllByRecursion P (xs ++ ys)
-all_append P [] ys h i = i
-all_append P (x ∷ xs) ys h i = (h.0, all_append P xs ys h.1 i)
-
-all_mapped : {X Y : Type 0} (P : Y → Type 0) (f : X → Y) → ((x : X) → P (f x)) → (xs : List X) → AllByRecursion P (map f xs)
-all_mapped P f g [] = tt
-all_mapped P f g (x ∷ xs) = (g x, all_mapped P f g xs)
 
 -- ---- the reads of a statement
 

@@ -8,13 +8,15 @@ use Rattle.std.specs.FinMap.Entries.{below_all, find, is_sorted, same_entries}
 use Rattle.std.specs.List.{AllByRecursion}
 use Rattle.std.specs.Ordering.{is_eq, is_lt}
 use Rattle.std.proofs.lemmas.Bool.{and_from, and_parts}
+use Rattle.tl_lemmas.proofs.Tests.{holds}
+use Rattle.tl_lemmas.proofs.Orders.{less_differs}
+use Rattle.tl_lemmas.proofs.Lists.{all_filter}
 use Rattle.tl_values.specs.declared.value.Value.{Value}
 use Rattle.tl_write.specs.Law.{IsPart}
 use Rattle.tl_write.specs.Own.{key_cmp}
 use Rattle.tl_write.specs.Tables.{Tables, is_in, records_in}
-use Rattle.tl_isolation.proofs.Lookups.{all_filter}
 use Rattle.tl_protocol.specs.Store.{Key}
-use Rattle.tl_journal.proofs.KeyOrder.{same_itself, tie}
+use Rattle.tl_write.proofs.Keys.{key_eq, key_itself, none_below, sorted_entries, sorted_filter}
 
 abbrev Entry : Type 0
 Entry = Key × List Value
@@ -23,17 +25,6 @@ Entry = Key × List Value
 abbrev keep : (Entry → Bool) → Key → Option (List Value) → Option (List Value)
 keep p k None = None
 keep p k (Some row) = cond (p (k, row)) (Some row) None
-
-not_equal : (o : Ordering) → is_lt o ≡ true → is_eq o ≡ false
-not_equal Less h = refl
-not_equal Equal h = absurd cc
-not_equal Greater h = absurd cc
-
-none_below : (k : Key) (es : List Entry) → below_all key_cmp k es ≡ true → find key_cmp k es ≡ None
-none_below k [] h = refl
-none_below k (e ∷ es) h =
-    let parts = and_parts (is_lt (key_cmp k e.0)) (below_all key_cmp k es) h in
-    ap (λ (b : Bool). cond b (Some e.1) (find key_cmp k es)) (not_equal (key_cmp k e.0) parts.0) ∙ none_below k es parts.1
 
 below_filter : (p : Entry → Bool) (k : Key) (es : List Entry) → below_all key_cmp k es ≡ true → below_all key_cmp k (filter p es) ≡ true
 below_filter p k [] h = refl
@@ -44,15 +35,6 @@ below_filter p k (e ∷ es) h =
       | false ↦ below_filter p k es parts.1
     ]
 
-sorted_filter : (p : Entry → Bool) (es : List Entry) → is_sorted key_cmp es ≡ true → is_sorted key_cmp (filter p es) ≡ true
-sorted_filter p [] h = refl
-sorted_filter p (e ∷ es) h =
-    let parts = and_parts (below_all key_cmp e.0 es) (is_sorted key_cmp es) h in
-    elim (p e) as (λ b. is_sorted key_cmp (cond b (e ∷ filter p es) (filter p es)) ≡ true) [
-      | true ↦ and_from (below_all key_cmp e.0 (filter p es)) (is_sorted key_cmp (filter p es)) (below_filter p e.0 es parts.0) (sorted_filter p es parts.1)
-      | false ↦ sorted_filter p es parts.1
-    ]
-
 find_filter : (p : Entry → Bool) (k : Key) (es : List Entry) → is_sorted key_cmp es ≡ true → find key_cmp k (filter p es) ≡ keep p k (find key_cmp k es)
 find_filter p k [] h = refl
 find_filter p k (e ∷ es) h =
@@ -60,7 +42,7 @@ find_filter p k (e ∷ es) h =
     elim (is_eq (key_cmp k e.0)) as (λ b. is_eq (key_cmp k e.0) ≡ b
     → find key_cmp k (cond (p e) (e ∷ filter p es) (filter p es)) ≡ keep p k (cond b (Some e.1) (find key_cmp k es))) [
       | true ↦ λ t.
-          let same : k ≡ e.0 = tie k e.0 t in
+          let same : k ≡ e.0 = key_eq k e.0 t in
           let none : find key_cmp k (filter p es) ≡ None = ap (λ (l : Key). find key_cmp l (filter p es)) same ∙ none_below e.0 (filter p es) (below_filter p e.0 es parts.0) in
           here (p e) t none ∙ ap (λ (l : Key). cond (p (l, e.1)) (Some e.1) None) (sym same)
       | false ↦ λ t. apart (p e) t ∙ find_filter p k es parts.1
@@ -74,25 +56,15 @@ find_filter p k (e ∷ es) h =
     apart true t = ap (λ (c : Bool). cond c (Some e.1) (find key_cmp k (filter p es))) t
     apart false t = refl
 
-sorted : (tables : Tables) → is_sorted key_cmp (finmap.entries tables) ≡ true
-sorted tables = so (is_sorted key_cmp (finmap.entries tables)) (finmap.entries_sorted tables)
-  where
-    so : (b : Bool) → T b → b ≡ true
-    so true h = refl
-    so false h = absurd h
-
-is_so : (b : Bool) → b ≡ true → T b
-is_so b e = subst T (sym e) tt
-
 module _ (number : ℕ) where
   abbrev in_it : Entry → Bool
   in_it e = is_in number e.0
 
   find_records : (tables : Tables) (k : Key) → find key_cmp k (records_in number tables) ≡ keep in_it k (finmap.get tables k)
-  find_records tables k = find_filter in_it k (finmap.entries tables) (sorted tables) ∙ ap (keep in_it k) (sym (finmap.get-entries tables k))
+  find_records tables k = find_filter in_it k (finmap.entries tables) (sorted_entries tables) ∙ ap (keep in_it k) (sym (finmap.get-entries tables k))
 
   sorted_records : (tables : Tables) → is_sorted key_cmp (records_in number tables) ≡ true
-  sorted_records tables = sorted_filter in_it (finmap.entries tables) (sorted tables)
+  sorted_records tables = sorted_filter in_it (finmap.entries tables) (sorted_entries tables)
 
   abbrev stands : Tables → Entry → Bool
   stands part e = is_some (finmap.get part e.0)
@@ -116,8 +88,8 @@ module _ (number : ℕ) where
   pub part_records : (part whole : Tables) → IsPart part whole → records_in number part ≡ filter (stands part) (records_in number whole)
   part_records part whole sub =
       same_entries key_cmp nat_list_cmp_total (slice_cmp-IsAntisymmetric nat_cmp-IsAntisymmetric) (records_in number part) (filter (stands part) (records_in number whole))
-      (is_so (is_sorted key_cmp (records_in number part)) (sorted_records part))
-      (is_so (is_sorted key_cmp (filter (stands part) (records_in number whole))) (sorted_filter (stands part) (records_in number whole) (sorted_records whole)))
+      (holds (is_sorted key_cmp (records_in number part)) (sorted_records part))
+      (holds (is_sorted key_cmp (filter (stands part) (records_in number whole))) (sorted_filter (stands part) (records_in number whole) (sorted_records whole)))
       (λ k.
       find_records part k
       ∙ same_found part k (finmap.get part k) (finmap.get whole k) refl (sub k)
@@ -130,7 +102,7 @@ listed : (P : Key → List Value → Type 0) (es : List Entry) → is_sorted key
 listed P [] s h = tt
 listed P (e ∷ es) s h =
     let parts = and_parts (below_all key_cmp e.0 es) (is_sorted key_cmp es) s in (
-      h e.0 e.1 (ap (λ (b : Bool). cond b (Some e.1) (find key_cmp e.0 es)) (same_itself e.0)),
+      h e.0 e.1 (ap (λ (b : Bool). cond b (Some e.1) (find key_cmp e.0 es)) (key_itself e.0)),
       listed P es parts.1 (λ k row i. h k row (later k row i parts.0)),
     )
   where
@@ -141,7 +113,7 @@ listed P (e ∷ es) s h =
     later k row i below =
         elim (is_eq (key_cmp k e.0)) as (λ b. is_eq (key_cmp k e.0) ≡ b → cond b (Some e.1) (find key_cmp k es) ≡ Some row) [
           | true ↦ λ t.
-              let none : find key_cmp k es ≡ None = ap (λ (l : Key). find key_cmp l es) (tie k e.0 t) ∙ none_below e.0 es below in
+              let none : find key_cmp k es ≡ None = ap (λ (l : Key). find key_cmp l es) (key_eq k e.0 t) ∙ none_below e.0 es below in
               absurd (no_row row (sym none ∙ i))
           | false ↦ λ t. i
         ] refl
@@ -152,4 +124,4 @@ pub each_record : (P : Key → List Value → Type 0) (number : ℕ) (tables : T
     → AllByRecursion (λ (e : Entry). P e.0 e.1) (records_in number tables)
 each_record P number tables h =
     all_filter (λ (e : Entry). is_in number e.0 ≡ true → P e.0 e.1) (λ (e : Entry). P e.0 e.1) (λ (e : Entry). is_in number e.0) (λ e i j. j i) (finmap.entries tables)
-    (listed (λ k row. is_in number k ≡ true → P k row) (finmap.entries tables) (sorted tables) (λ k row i. h k row (finmap.get-entries tables k ∙ i)))
+    (listed (λ k row. is_in number k ≡ true → P k row) (finmap.entries tables) (sorted_entries tables) (λ k row i. h k row (finmap.get-entries tables k ∙ i)))

@@ -6,6 +6,7 @@ use Rattle.std.specs.Ordering.{is_lt}
 use Rattle.std.proofs.lemmas.Bool.{eqb-true, ltb-true}
 use Rattle.std.proofs.lemmas.List.Elements.{All-from_recursion}
 use Rattle.std.proofs.lemmas.List.Sorted.{IsPermutation-refl}
+use Rattle.std.proofs.lemmas.Option.{same_Some}
 use Rattle.tl_base.specs.Along.{Along}
 use Rattle.tl_base.specs.NodeSet.{no_nodes}
 use Rattle.tl_base.specs.declared.store.Item.{Item}
@@ -43,7 +44,6 @@ use Rattle.tl_isolation.specs.Meaning.{QueryAnswers, told_of}
 use Rattle.tl_protocol.specs.Store.{Key}
 use Rattle.tl_protocol.specs.Told.{says}
 use Rattle.tl_protocol.proofs.Account.{account, all_query, all_so, bank, opening_rows, with_balance}
-use Rattle.tl_protocol.proofs.Frames.{some_same}
 use Rattle.tl_protocol.proofs.Meanings.{Row}
 use Rattle.tl_journal.specs.declared.event.Event.{Event}
 use Rattle.tl_journal.specs.Ask.{LoadCommits, StoreCommits, LoadLog, LoadRecord, StoreRecord, StoreLog, ReadPage, DrawNumbers, AskManager, Commits, Log, Numbers, Page}
@@ -630,8 +630,8 @@ start_stands =
     one : (k : ℕ) (b c : Bool) → (1 == k) ≡ b → (2 == k) ≡ c → (s : Session)
         → (if b then Some session_writer else (if c then Some session_recoverer else None)) ≡ Some s
         → (opening_node by_default s ≡ starts k) × ((starts k).number ≡ k)
-    one k true c f g s e = subst (λ (m : ℕ). (opening_node by_default s ≡ starts m) × ((starts m).number ≡ m)) (eqb-true 1 k f) (ap (opening_node by_default) (sym (some_same _ _ e)), refl)
-    one k false true f g s e = subst (λ (m : ℕ). (opening_node by_default s ≡ starts m) × ((starts m).number ≡ m)) (eqb-true 2 k g) (ap (opening_node by_default) (sym (some_same _ _ e)), refl)
+    one k true c f g s e = subst (λ (m : ℕ). (opening_node by_default s ≡ starts m) × ((starts m).number ≡ m)) (eqb-true 1 k f) (ap (opening_node by_default) (sym (same_Some _ _ e)), refl)
+    one k false true f g s e = subst (λ (m : ℕ). (opening_node by_default s ≡ starts m) × ((starts m).number ≡ m)) (eqb-true 2 k g) (ap (opening_node by_default) (sym (same_Some _ _ e)), refl)
     one k false false f g s e = absurd cc
 
 pub accepts_whole : Along (λ (past : List Event) (e : Event). IsEvent script_recovery by_default past e × IsWhole script_recovery by_default past e) [] events_recovery

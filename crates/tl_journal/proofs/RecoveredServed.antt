@@ -6,6 +6,7 @@ use Rattle.std.specs.List.{AllByRecursion}
 use Rattle.std.specs.Cmp.Lexicographic.{nat_list_cmp_total, slice_cmp}
 use Rattle.std.specs.Ordering.{is_le, is_lt, nat_cmp}
 use Rattle.std.proofs.lemmas.Bool.{ltb-true}
+use Rattle.tl_lemmas.proofs.Lists.{no_length}
 use Rattle.tl_base.specs.Along.{Along}
 use Rattle.tl_base.specs.declared.store.StoreReply.{StoreReply}
 use Rattle.tl_cells.specs.declared.cell.Cell.{Cell}
@@ -23,10 +24,6 @@ use Rattle.tl_journal.proofs.InOrder.{IsNext, IsWhole, along_second, in_turn_who
 use Rattle.tl_journal.proofs.Recovered.{accepts_recovery, accepts_whole, events_recovery, script_recovery}
 
 -- ---- what a page has
-
-no_length : {A : Type 0} (xs : List A) → length xs ≡ 0 → xs ≡ []
-no_length [] e = refl
-no_length (x ∷ xs) e = absurd (omega arith)
 
 -- the cells of a list of stores, in the order of keys
 abbrev in_order : List (List ℕ × Cell) → List (List ℕ × Cell)

@@ -3,6 +3,7 @@ use Rattle.std.proofs.Common.{◌≡◌, ℕ, ◌<◌, ◌≤◌, Bool, true, fa
 use Rattle.std.specs.Prelude.{◌==◌, ◌&&◌, ◌||◌, nat_le, if◌then◌else◌}
 use Rattle.std.proofs.lemmas.Bool.Decides.{nat_tests}
 use Rattle.std.proofs.lemmas.List.{append-nil}
+use Rattle.std.proofs.lemmas.Option.{same_Some}
 use Rattle.tl_base.specs.NodeSet.{has_node, with_node}
 use Rattle.tl_base.specs.declared.node.NodeSet.{NodeSet}
 use Rattle.tl_base.specs.declared.place.Settings.{Settings}
@@ -30,7 +31,7 @@ use Rattle.tl_protocol.specs.Next.{by_flag, by_log, load_finish, load_lost, load
 use Rattle.tl_protocol.specs.Told.{finished_so, says, told}
 use Rattle.tl_protocol.specs.Run.{Layout}
 use Rattle.tl_protocol.specs.Stands.{Notice, posted}
-use Rattle.tl_protocol.proofs.Frames.{put_same, some_same}
+use Rattle.tl_protocol.proofs.Frames.{put_same}
 use Rattle.tl_protocol.proofs.Duties.{active_part}
 use Rattle.tl_protocol.proofs.Inv.{ActiveOk, RecoveryOk, base}
 use Rattle.tl_protocol.proofs.Reached.{Reached, reached}
@@ -531,7 +532,7 @@ module _ (R : Txn → List Fact → Reads → Type 0) (layout : Layout) (setup :
 
   claim_steps : (node : Node) (gone : ℕ) (later : List Bound) → 1 ≤ gone → gone ≤ 16 → StepsSmall (recovers node gone later)
   claim_steps node gone later some few n ask e w state entries reply said after b s small =
-      let its : AskManager (home_of settings gone) (manager.Claim gone) ≡ ask = some_same (AskManager (home_of settings gone) (manager.Claim gone)) ask e in
+      let its : AskManager (home_of settings gone) (manager.Claim gone) ≡ ask = same_Some (AskManager (home_of settings gone) (manager.Claim gone)) ask e in
       subst
       (λ (k : ℕ).
       Before R layout setup settings w state entries k (recovers node gone later)
@@ -588,7 +589,7 @@ module _ (R : Txn → List Fact → Reads → Type 0) (layout : Layout) (setup :
       claim_steps node gone later some least n ask e w state entries reply said after b s
       (λ set is. ⊎_elim (λ x. absurd (two set (sym is ∙ x.1)))
       (λ x. given_few w state entries n (recovers node gone later) b few gone x.1 set x.2 (subst (AreNodes x.1) (sym (given_same set x.0 (sym is ∙ x.4))) x.3))
-      (subst (λ a. Serves settings (parts_of w) n a reply after) (sym (some_same (AskManager (home_of settings gone) (manager.Claim gone)) ask e)) s))
+      (subst (λ a. Serves settings (parts_of w) n a reply after) (sym (same_Some (AskManager (home_of settings gone) (manager.Claim gone)) ask e)) s))
     where
       two : (set : NodeSet) → Told (replied.Given set) ≡ Told replied.There → ⊥
       two set e = cc

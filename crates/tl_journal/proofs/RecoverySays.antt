@@ -1,6 +1,7 @@
 -- At which replies a node says Recovered or There.
 use Rattle.std.proofs.Common.{◌≡◌, ℕ, Bool, true, false, List, [], ◌∷◌, Option, Some, None, Result, Ok, Err, inl, inr, refl, sym, ap, subst}
 use Rattle.std.specs.List.{AllByRecursion}
+use Rattle.std.proofs.lemmas.Option.{same_Some}
 use Rattle.tl_base.specs.declared.place.Settings.{Settings}
 use Rattle.tl_schema.specs.declared.catalog.Catalog.{Catalog}
 use Rattle.tl_schema.specs.declared.catalog.Setup.{Setup}
@@ -27,7 +28,6 @@ use Rattle.tl_protocol.specs.Store.{CommitsCell}
 use Rattle.tl_protocol.specs.World.{Fact, Txn, Loaded, Decision, Commit, Undo, World}
 use Rattle.tl_protocol.specs.Run.{Layout}
 use Rattle.tl_protocol.specs.Told.{finished_as, finished_so}
-use Rattle.tl_protocol.proofs.Frames.{some_same}
 use Rattle.tl_journal.specs.Ask.{Ask, Heard, AskManager, Commits, Record, Stored, Told}
 use Rattle.tl_journal.specs.Asks.{Course, ToBegin, ToRead, ToIdle, ToCommit, ToRecover, asks, course_in, course_outside}
 use Rattle.tl_journal.specs.Bytes.{home_of}
@@ -56,7 +56,7 @@ query_plain query tables (answer.There gone) h = absurd h
 query_plain query tables told h = refl
 
 as_plain : (is told : Answer) → is_plain is ≡ true → Some is ≡ Some told → is_plain told ≡ true
-as_plain is told p e = subst (λ (a : Answer). is_plain a ≡ true) (some_same is told e) p
+as_plain is told p e = subst (λ (a : Answer). is_plain a ≡ true) (same_Some is told e) p
 
 refusal_plain : (refusal : ChangeFault) (told : Answer) → told_of (Err refusal) ≡ Some told → is_plain told ≡ true
 refusal_plain fault.Overflow told e = as_plain answer.Overflow told refl e
@@ -219,7 +219,7 @@ module _ (R : Txn → List Fact → Reads → Type 0) (layout : Layout) (setup :
       → asks settings setup.catalog (so_far node (statement ∷ later) (Recovering (record c { left = d ∷ [] }))) ≡ Some ask → heard ≡ Told (reply.Orphaned [])
       → NoneOf after.active c
   orphans_none c d b is e =
-      let its : AskManager (home_of settings d) (asked.Orphans d) ≡ ask = some_same (AskManager (home_of settings d) (asked.Orphans d)) ask is in
+      let its : AskManager (home_of settings d) (asked.Orphans d) ≡ ask = same_Some (AskManager (home_of settings d) (asked.Orphans d)) ask is in
       let s : Serves settings (parts_of w) n (AskManager (home_of settings d) (asked.Orphans d)) (Told (reply.Orphaned [])) after =
       subst (λ (h : Heard). Serves settings (parts_of w) n (AskManager (home_of settings d) (asked.Orphans d)) h after) e
       (subst (λ (a : Ask). Serves settings (parts_of w) n a heard after) (sym its) serves) in
@@ -236,7 +236,7 @@ module _ (R : Txn → List Fact → Reads → Type 0) (layout : Layout) (setup :
       → asks settings setup.catalog (so_far node (statement ∷ later) (EndingLost (record c { left = [] }) o)) ≡ Some ask → NoneOf after.active c
   ended_none c o b is =
       let here : Node = so_far node (statement ∷ later) (EndingLost (record c { left = [] }) o) in
-      let its : AskManager (home_of settings o.node) (asked.End o.tid) ≡ ask = some_same (AskManager (home_of settings o.node) (asked.End o.tid)) ask is in
+      let its : AskManager (home_of settings o.node) (asked.End o.tid) ≡ ask = same_Some (AskManager (home_of settings o.node) (asked.End o.tid)) ask is in
       let s : Serves settings (parts_of w) n (AskManager (home_of settings o.node) (asked.End o.tid)) heard after =
       subst (λ (a : Ask). Serves settings (parts_of w) n a heard after) (sym its) serves in
       let x = closed_active R layout setup settings w state entries n here b (record c { left = [] }) o b.node_is.recovery in

@@ -3,6 +3,7 @@ use Rattle.std.proofs.Common.{◌≡◌, ℕ, ◌+◌, ◌≤◌, false, ◌⊎�
 use Rattle.std.specs.Prelude.{not}
 use Rattle.std.specs.List.{AllByRecursion}
 use Rattle.std.proofs.lemmas.Bool.{cases_eq}
+use Rattle.std.proofs.lemmas.Option.{same_Some}
 use Rattle.tl_base.specs.declared.node.NodeSet.{NodeSet}
 use Rattle.tl_base.specs.declared.place.Settings.{Settings}
 use Rattle.tl_schema.specs.declared.catalog.Setup.{Setup}
@@ -17,7 +18,6 @@ use Rattle.tl_isolation.specs.declared.state.SiState.{SiState}
 use Rattle.tl_isolation.specs.History.{state_after}
 use Rattle.tl_isolation.specs.Script.{setup_of}
 use Rattle.tl_protocol.specs.Run.{Layout, Reach}
-use Rattle.tl_protocol.proofs.Frames.{some_same}
 use Rattle.tl_journal.specs.declared.event.Event.{Event}
 use Rattle.tl_journal.specs.Ask.{Ask, AskManager}
 use Rattle.tl_journal.specs.Asks.{asks}
@@ -72,7 +72,7 @@ no_notice : (m : ℕ) (r : ManagerRequest) → ((d : ℕ) (also : NodeSet) → r
 no_notice m (asked.Post d also) h = absurd (h d also refl)
 no_notice m r h = refl
 
-asked_no_post : (ask : Ask) → ((m d : ℕ) (also : NodeSet) → ask ≡ AskManager m (asked.Post d also) → ⊥) → is_post (written ask) ≡ false
+pub asked_no_post : (ask : Ask) → ((m d : ℕ) (also : NodeSet) → ask ≡ AskManager m (asked.Post d also) → ⊥) → is_post (written ask) ≡ false
 asked_no_post (AskManager m r) h = no_notice m r (λ d also e. h m d also (ap (AskManager m) e))
 asked_no_post ask h = refl
 
@@ -118,7 +118,7 @@ module _ (layout : Layout) (script : Script) (settings : Settings) (past : List 
       by_node n session h runs (inl same) =
           subst (λ (i : ℕ). NodeStands script settings (length (past ++ e ∷ [])) (node_after settings script (past ++ e ∷ []) session) goes.world i) same
           (subst (λ (x : Session). NodeStands script settings (length (past ++ e ∷ [])) (node_after settings script (past ++ e ∷ []) x) goes.world e.node)
-          (some_same own session (sym is_session ∙ ap (session_of script) same ∙ h))
+          (same_Some own session (sym is_session ∙ ap (session_of script) same ∙ h))
           (own_stands layout script settings past e s goes.world e.node own new is_session own_runs leads fits at goes.node_is))
       by_node n session h runs (inr other) =
           still_stands layout script settings past e s goes.world n session h runs

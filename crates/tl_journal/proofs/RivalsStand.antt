@@ -3,6 +3,7 @@ use Rattle.std.proofs.Common.{◌≡◌, inl, inr, ℕ, ◌+◌, ◌<◌, ◌≤
 use Rattle.std.specs.Prelude.{slice_get}
 use Rattle.std.proofs.lemmas.List.{length-append}
 use Rattle.std.proofs.lemmas.List.Elements.{All-contains, All-from_recursion}
+use Rattle.std.proofs.lemmas.Option.{same_Some}
 use Rattle.tl_base.specs.declared.place.Settings.{Settings}
 use Rattle.tl_schema.specs.declared.catalog.Catalog.{Catalog}
 use Rattle.tl_schema.specs.declared.catalog.Setup.{Setup}
@@ -25,7 +26,6 @@ use Rattle.tl_protocol.specs.Stands.{HasInLog}
 use Rattle.tl_protocol.specs.Store.{Cell, Key}
 use Rattle.tl_protocol.specs.World.{Fact, Txn, World}
 use Rattle.tl_protocol.specs.World as protocol
-use Rattle.tl_protocol.proofs.Frames.{some_same}
 use Rattle.tl_protocol.proofs.Inv.{TxnOk, base, held_txn, shared}
 use Rattle.tl_protocol.proofs.Reached.{Reached, reached}
 use Rattle.tl_protocol.proofs.Turns.{held_by_number}
@@ -56,7 +56,7 @@ use Rattle.tl_journal.proofs.Stood.{Heeds, Stood}
 next_asked : (settings : Settings) (catalog : Catalog) (node : Node) (todo : List Bound) (s : Storing) (own : Write) (later : List Write) (ask : Ask)
     → asks settings catalog (record node { todo = todo; doing = Stores (record s { left = own ∷ later }) None }) ≡ Some ask → ask ≡ LoadRecord own.key
 next_asked settings catalog node [] s own later ask e = absurd cc
-next_asked settings catalog node (statement ∷ todo) s own later ask e = sym (some_same (LoadRecord own.key) ask e)
+next_asked settings catalog node (statement ∷ todo) s own later ask e = sym (same_Some (LoadRecord own.key) ask e)
 
 record_same : (x y : Cell) → Record x ≡ Record y → x ≡ y
 record_same x y e = cc

@@ -5,6 +5,7 @@ use Rattle.std.specs.FinMap as finmap
 use Rattle.std.specs.List.{AllByRecursion, list_any}
 use Rattle.std.specs.Ordering.{is_eq, is_lt}
 use Rattle.std.proofs.lemmas.Bool.{and_parts, eqb-true, not-true, or_left, or_right}
+use Rattle.tl_lemmas.proofs.Lists.{all_both, all_map, weaker}
 use Rattle.tl_values.specs.declared.value.Value.{Value}
 use Rattle.tl_values.specs.Key.{key_bytes}
 use Rattle.tl_values.specs.Value.{is_null}
@@ -40,7 +41,6 @@ use Rattle.tl_isolation.specs.Meaning.{QueryAnswers, SelectAnswers, change_of, t
 use Rattle.tl_isolation.specs.Step.{own_after}
 use Rattle.tl_isolation.specs.Queries.{columns_in}
 use Rattle.tl_isolation.specs.Tables.{AreHome, FitsTable, IsAccepted, IsHome, Suits, rows_in, table_of}
-use Rattle.tl_isolation.proofs.Lookups.{all_map, weaker}
 use Rattle.tl_protocol.specs.Store.{Key, last_of, over, same_key, written}
 use Rattle.tl_protocol.specs.World.{Fact, Agrees}
 use Rattle.tl_protocol.specs.Move.{Changes}
@@ -51,10 +51,11 @@ use Rattle.tl_journal.specs.Binding.{IsKeyed, TableFits}
 use Rattle.tl_journal.specs.Reads.{Read, Point, edit_reads, query_reads, range_of, read_of, reads_of, table_key}
 use Rattle.tl_journal.specs.Takes.{own_said, tables_seen, view_changed, view_read}
 use Rattle.tl_journal.proofs.Keyed.{key_known, key_of_values, key_short, key_within}
-use Rattle.tl_journal.proofs.KeyOrder.{compared_in, in_table, same_itself, tie}
+use Rattle.tl_journal.proofs.KeyOrder.{compared_in, in_table}
 use Rattle.tl_journal.proofs.Facts.{Among, AreGathered, IsGathered, done, own_key, reach, reaches}
 use Rattle.tl_journal.proofs.Records.{each_record, part_records}
 use Rattle.tl_journal.proofs.Stated.{StatementOn}
+use Rattle.tl_write.proofs.Keys.{key_eq, key_itself}
 
 -- ---- a row that lies within an access is read
 
@@ -99,7 +100,7 @@ module _ (number : ℕ) (table : Table) (tables : Tables) where
     where
       one : (b : Bool) (later : Option (Option (List Value))) → same_key (record_key number table row) k ≡ b → Stands tables k later
           → Stands tables k (last_of (cond b (Some (Some row)) None) later)
-      one true None e s = subst (λ (l : Key). finmap.get tables l ≡ Some row) (tie (record_key number table row) k e) h.0
+      one true None e s = subst (λ (l : Key). finmap.get tables l ≡ Some row) (key_eq (record_key number table row) k e) h.0
       one false None e s = tt
       one b (Some x) e s = s
 
@@ -108,7 +109,7 @@ module _ (number : ℕ) (table : Table) (tables : Tables) where
   row_written [] k row h e = absurd h
   row_written (r ∷ rows) k row (inl same) e =
       one (same_key (record_key number table r) k) (written k (its_writes rows))
-      (subst (λ (l : Key). same_key (record_key number table r) l ≡ true) (ap (record_key number table) same ∙ e) (same_itself (record_key number table r)))
+      (subst (λ (l : Key). same_key (record_key number table r) l ≡ true) (ap (record_key number table) same ∙ e) (key_itself (record_key number table r)))
     where
       one : (b : Bool) (later : Option (Option (List Value))) → b ≡ true → is_there (last_of (cond b (Some (Some r)) None) later) ≡ true
       one true None h = refl
@@ -348,10 +349,6 @@ each_among : {A : Type 0} (xs : List A) → AllByRecursion (λ x. Among x xs) xs
 each_among [] = tt
 each_among (x ∷ xs) = (inl refl, weaker (λ y. Among y xs) (λ y. Among y (x ∷ xs)) (λ y h. inr h) xs (each_among xs))
 
-both_all : {A : Type 0} (P Q : A → Type 0) (xs : List A) → AllByRecursion P xs → AllByRecursion Q xs → AllByRecursion (λ x. P x × Q x) xs
-both_all P Q [] h i = tt
-both_all P Q (x ∷ xs) h i = ((h.0, i.0), both_all P Q xs h.1 i.1)
-
 point_reached : (shards number : ℕ) (table : Table) (rows : List (List Value)) (row found : List Value) → Among row rows → is_looked_up table row ≡ true
     → reach shards (map (λ r. Point (record_key number table r)) (filter (is_looked_up table) rows)) (record_key number table row) found ≡ true
 point_reached shards number table [] row found h e = absurd h
@@ -363,7 +360,7 @@ point_reached shards number table (r ∷ rows) row found (inl same) e = one (is_
     one : (b : Bool) → b ≡ true → reach shards (map (λ x. Point (record_key number table x)) (cond b (r ∷ rest) rest)) (record_key number table row) found ≡ true
     one true i =
         or_left (same_key (record_key number table r) (record_key number table row)) (reach shards (map (λ x. Point (record_key number table x)) rest) (record_key number table row) found)
-        (ap (λ x. same_key (record_key number table x) (record_key number table row)) same ∙ same_itself (record_key number table row))
+        (ap (λ x. same_key (record_key number table x) (record_key number table row)) same ∙ key_itself (record_key number table row))
     one false i = absurd cc
 point_reached shards number table (r ∷ rows) row found (inr h) e = one (is_looked_up table r) (point_reached shards number table rows row found h e)
   where
@@ -391,7 +388,7 @@ module _ (shards : ℕ) (catalog : Catalog) (facts : List Fact) (tables : Tables
       (λ stands.
       point_reached shards number table new row found h.0
       (key_looked_up catalog number row found keyed h.1 (home (record_key number table row) found stands) (in_table number (key_bytes (key_values table row))))) has)
-      new (both_all (λ row. Among row new) (FitsTable table) new (each_among new) suits.change)
+      new (all_both (λ row. Among row new) (FitsTable table) new (each_among new) suits.change)
   sees_all (Update number sets where_) rows suits keyed g = (
     compares_values (table_of catalog number).columns where_ suits.change.2,
     λ key row has i c.

@@ -4,6 +4,7 @@ use Rattle.std.specs.Prelude.{nat_lt, nat_le}
 use Rattle.std.specs.List.{AllByRecursion}
 use Rattle.std.specs.Option.{option_to_list}
 use Rattle.std.proofs.lemmas.Bool.Decides.{nat_tests}
+use Rattle.tl_lemmas.proofs.Lists.{all_append, all_mapped}
 use Rattle.tl_base.specs.declared.place.Settings.{Settings}
 use Rattle.tl_values.specs.declared.value.Value.{Value}
 use Rattle.tl_schema.specs.declared.access.Access.{Access}
@@ -51,14 +52,6 @@ pub record ReadsAt (settings : Settings) (reads : Reads) : Type 0 where
 abbrev pub DoingAt : Settings → Doing → Type 0
 DoingAt settings (Reading t reads) = ReadsAt settings reads
 DoingAt settings doing = Unit {0}
-
-pub all_append : {X : Type 0} (P : X → Type 0) (xs ys : List X) → AllByRecursion P xs → AllByRecursion P ys → AllByRecursion P (xs ++ ys)
-all_append P [] ys h i = i
-all_append P (x ∷ xs) ys h i = (h.0, all_append P xs ys h.1 i)
-
-all_mapped : {X Y : Type 0} (P : Y → Type 0) (f : X → Y) → ((x : X) → P (f x)) → (xs : List X) → AllByRecursion P (map f xs)
-all_mapped P f g [] = tt
-all_mapped P f g (x ∷ xs) = (g x, all_mapped P f g xs)
 
 next_below : (shard shards : ℕ) → nat_lt (shard + 1) shards ≡ true → shard + 1 < shards
 next_below shard shards h = grind (arith, nat_tests)

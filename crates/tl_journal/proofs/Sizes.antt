@@ -4,6 +4,8 @@ use Rattle.std.specs.List.{AllByRecursion}
 use Rattle.std.proofs.lemmas.Bool.{and_from}
 use Rattle.std.proofs.lemmas.List.{length-map}
 use Rattle.std.proofs.lemmas.List.Elements.{All-from_recursion}
+use Rattle.tl_lemmas.proofs.Tests.{and_first, and_second}
+use Rattle.tl_lemmas.proofs.Lists.{all_map, all_push, found, weaker}
 use Rattle.tl_base.specs.declared.place.Settings.{Settings}
 use Rattle.tl_values.specs.declared.value.Value.{Value}
 use Rattle.tl_schema.specs.declared.catalog.Catalog.{Catalog}
@@ -20,7 +22,6 @@ use Rattle.tl_versions.specs.Versions.{is_written, prune, stranger}
 use Rattle.tl_versions.proofs.Lists.{no_stranger_absent}
 use Rattle.tl_write.specs.declared.write.Write.{Write}
 use Rattle.tl_write.specs.Own.{is_rising}
-use Rattle.tl_write.proofs.Rising.{first, second}
 use Rattle.tl_isolation.specs.declared.bound.Bound.{Bound}
 use Rattle.tl_isolation.specs.declared.bound.Bound.TheVariants as bound
 use Rattle.tl_isolation.specs.declared.entry.Answer.{Answer}
@@ -28,7 +29,6 @@ use Rattle.tl_isolation.specs.declared.entry.Answer.TheVariants as answer
 use Rattle.tl_isolation.specs.declared.script.Script.{Script}
 use Rattle.tl_isolation.specs.declared.script.Session.{Session}
 use Rattle.tl_isolation.specs.State.{is_refusal}
-use Rattle.tl_isolation.proofs.Lookups.{all_map, all_push, found, weaker}
 use Rattle.tl_protocol.specs.Store.{Key, Cell, CommitsCell, LogCell, same_key, last_of}
 use Rattle.tl_protocol.specs.Store as store
 use Rattle.tl_protocol.specs.World.{Stage, Fresh, Opened, Answering, Txn, Loaded, Decision, Commit, Undo}
@@ -168,11 +168,11 @@ AskOk few None = Unit {0}
 AskOk few (Some ask) = AskFits few ask
 
 -- the keys of writes rise as the writes do
-keys_rise_from : (w : Write) (ws : List Write) → is_rising (w ∷ ws) ≡ true → rise_from w.key (map (λ (o : Write). o.key) ws) ≡ true
+pub keys_rise_from : (w : Write) (ws : List Write) → is_rising (w ∷ ws) ≡ true → rise_from w.key (map (λ (o : Write). o.key) ws) ≡ true
 keys_rise_from w [] h = refl
-keys_rise_from w (x ∷ xs) h = and_from _ _ (first _ _ (first _ _ h)) (keys_rise_from x xs (second _ _ h))
+keys_rise_from w (x ∷ xs) h = and_from _ _ (and_first _ _ (and_first _ _ h)) (keys_rise_from x xs (and_second _ _ h))
 
-keys_rise : (ws : List Write) → is_rising ws ≡ true → are_rising (map (λ (o : Write). o.key) ws) ≡ true
+pub keys_rise : (ws : List Write) → is_rising ws ≡ true → are_rising (map (λ (o : Write). o.key) ws) ≡ true
 keys_rise [] h = refl
 keys_rise (w ∷ ws) h = keys_rise_from w ws h
 

@@ -5,6 +5,8 @@ use Rattle.std.specs.Prelude.{slice_get, option_and_then, unwrap_or, if◌then�
 use Rattle.std.proofs.lemmas.Bool.{both_ways, eq-eqb}
 use Rattle.std.proofs.lemmas.List.{append-nil, append_assoc}
 use Rattle.std.proofs.lemmas.List.Elements.{filter_map-append}
+use Rattle.tl_lemmas.proofs.Tests.{and_first}
+use Rattle.tl_lemmas.proofs.Lists.{behind_first}
 use Rattle.tl_base.specs.Along.{Along}
 use Rattle.tl_base.specs.declared.place.Settings.{Settings}
 use Rattle.tl_values.specs.declared.value.Value.{Value}
@@ -112,10 +114,6 @@ opened_append : (n : ℕ) (opened : Bool) (es ds : List Entry) → opened_after 
 opened_append n opened [] ds = refl
 opened_append n opened (e ∷ es) ds = opened_append n (unwrap_or (opening_at n e) opened) es ds
 
-slice_here : {A : Type 0} (xs : List A) (x : A) (ys : List A) → slice_get (xs ++ x ∷ ys) (length xs) ≡ Some x
-slice_here [] x ys = refl
-slice_here (z ∷ xs) x ys = slice_here xs x ys
-
 length_push : {A : Type 0} (xs : List A) (x : A) → length (xs ++ x ∷ []) ≡ suc (length xs)
 length_push [] x = refl
 length_push (z ∷ xs) x = ap suc (length_push xs x)
@@ -156,7 +154,7 @@ module _ (script : Script) (entries : List Entry) (session : Session) (node : No
       ap (λ o. option_and_then (λ (s : Session). slice_get s.statements (length (answers_by node.number entries))) o) i.is_session
       ∙ ap (λ xs. slice_get xs (length (answers_by node.number entries))) (i.statements ∙ ap (λ x. i.past ++ x) todo)
       ∙ ap (λ k. slice_get (i.past ++ statement ∷ later) k) (ap length i.answers ∙ sym i.count)
-      ∙ slice_here i.past statement later
+      ∙ behind_first i.past statement later
 
   pub next_passes : (p : Bound → Bool) (statement : Bound) (later : List Bound) → node.todo ≡ statement ∷ later → p statement ≡ true
       → NextPasses p script node.number entries
@@ -194,9 +192,6 @@ begin_nested n k opened = by (n == n)
     by : (b : Bool) → unwrap_or (if b && false then Some true else None) opened ≡ opened
     by true = refl
     by false = refl
-
-was_open : (x y : Bool) → (x && y) ≡ true → x ≡ true
-was_open x y e = grind arith
 
 begin_opens : (n k : ℕ) (opened : Bool) → opened_after n opened (says n k bound.Begin answer.Begun ∷ []) ≡ true
 begin_opens n k opened = rw (eq-eqb n n refl) refl
@@ -460,7 +455,7 @@ module _ (script : Script) (settings : Settings) (commits : List Committed) (ent
       let q = own held e in
       subst (λ k. NextPasses is_commit script k entries) (sym q.1)
       (next_passes script entries session (so_far node (statement ∷ later) old) i is_commit statement later refl
-      (h (sym q.0 ∙ was_open held.opened (not (is_lost held.phase)) stays)))
+      (h (sym q.0 ∙ and_first held.opened (not (is_lost held.phase)) stays)))
 
   -- and one that is undone
   undo_speaks : (node : Node) (statement : Bound) (old : Doing) (t : Txn) (rival : Option ℕ) → IsOwn (state_after (setup_of script settings) entries) node.number t rival
@@ -469,7 +464,7 @@ module _ (script : Script) (settings : Settings) (commits : List Committed) (ent
       let q = own held e in
       subst (λ k. NextPasses is_rollback script k entries) (sym q.1)
       (next_passes script entries session (so_far node (statement ∷ later) old) i is_rollback statement later refl
-      (subst (λ r. ends_so (Undo r) statement ≡ true) (sym q.2 ∙ none) (h (sym q.0 ∙ was_open held.opened (not (is_lost held.phase)) stays))))
+      (subst (λ r. ends_so (Undo r) statement ≡ true) (sym q.2 ∙ none) (h (sym q.0 ∙ and_first held.opened (not (is_lost held.phase)) stays))))
 
   speaks_commit : (node : Node) (statement : Bound) (t : Txn) (heard : Heard) → IsOwn (state_after (setup_of script settings) entries) node.number t None
       → (is_opened t.stage ≡ true → is_commit statement ≡ true) → From node statement (Inside t)

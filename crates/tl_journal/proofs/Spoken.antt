@@ -4,6 +4,7 @@ use Rattle.std.specs.Prelude.{◌==◌, ◌&&◌, ◌||◌, not}
 use Rattle.std.specs.List.{list_any}
 use Rattle.std.proofs.lemmas.Bool.{and_parts, cases_eq, or_cases, or_left, or_right}
 use Rattle.std.proofs.lemmas.List.Folds.{list_any-append}
+use Rattle.std.proofs.lemmas.Option.{same_Some}
 use Rattle.tl_base.specs.Along.{Along, Along-append}
 use Rattle.tl_base.specs.declared.place.Settings.{Settings}
 use Rattle.tl_isolation.specs.declared.entry.Answer.{Answer}
@@ -14,7 +15,6 @@ use Rattle.tl_isolation.specs.declared.state.Commit.{Commit as Committed}
 use Rattle.tl_isolation.specs.History.{state_after}
 use Rattle.tl_isolation.specs.Script.{SpeaksAt, setup_of, vanishes_at}
 use Rattle.tl_protocol.specs.Run.{Layout}
-use Rattle.tl_protocol.proofs.Frames.{some_same}
 use Rattle.tl_journal.specs.declared.event.Event.{Event}
 use Rattle.tl_journal.specs.Bytes.{heard}
 use Rattle.tl_journal.specs.Journal.{IsCut, IsPost, IsRequest, answer_said, entries_told, has_vanished, is_post, node_after, posts, session_of}
@@ -91,7 +91,7 @@ module _ (script : Script) (settings : Settings) (past : List Event) (e : Event)
           → SpeakIs script (entries_told (past ++ e ∷ [])) session (node_after settings script (past ++ e ∷ []) session)
       by_node own on n session h runs (inl same) =
           subst (λ (x : Session). SpeakIs script (entries_told (past ++ e ∷ [])) x (node_after settings script (past ++ e ∷ []) x))
-          (some_same r.session session (sym r.is_session ∙ ap (session_of script) same ∙ h))
+          (same_Some r.session session (sym r.is_session ∙ ap (session_of script) same ∙ h))
           (subst (λ (es : List Entry). SpeakIs script es r.session (node_after settings script (past ++ e ∷ []) r.session)) (ap (λ (es : List Entry). entries_told past ++ es) (sym r.told) ∙ sym (entries_more past e))
           (subst
           (λ (x : Node).
@@ -139,7 +139,7 @@ module _ (script : Script) (settings : Settings) (past : List Event) (e : Event)
           → SpeakIs script (entries_told (past ++ e ∷ [])) session (node_after settings script (past ++ e ∷ []) session)
       by_node n session h runs (inl same) =
           subst (λ (x : Session). SpeakIs script (entries_told (past ++ e ∷ [])) x (node_after settings script (past ++ e ∷ []) x))
-          (some_same c.session session (sym c.is_session ∙ ap (session_of script) same ∙ h))
+          (same_Some c.session session (sym c.is_session ∙ ap (session_of script) same ∙ h))
           (subst (λ (es : List Entry). SpeakIs script es c.session (node_after settings script (past ++ e ∷ []) c.session)) (ap (λ (es : List Entry). entries_told past ++ es) (sym c.told) ∙ sym (entries_more past e))
           (subst (λ (x : Node). SpeakIs script (entries_told past ++ told) c.session x)
           (sym (node_more settings script past e c.session ∙ after_cut settings script e node c.ask (sym own) post c.asked c.cut)) on.1))

@@ -2,6 +2,7 @@
 use Rattle.std.proofs.Common.{ℕ, zero, suc, ◌<◌, ◌≤◌, List, [], ◌∷◌, length, arith}
 use Rattle.std.specs.Prelude.{slice_get, unwrap_or}
 use Rattle.std.specs.List.{AllByRecursion}
+use Rattle.tl_lemmas.proofs.Lists.{weaker}
 use Rattle.tl_schema.specs.declared.catalog.Catalog.{Catalog}
 use Rattle.tl_schema.specs.declared.catalog.Table.{Table}
 use Rattle.tl_algebra.specs.declared.edit.Edit.{Edit}
@@ -12,7 +13,6 @@ use Rattle.tl_isolation.specs.declared.bound.Bound.{Bound}
 use Rattle.tl_isolation.specs.declared.bound.Bound.TheVariants as bound
 use Rattle.tl_isolation.specs.Queries.{SuitsQuery}
 use Rattle.tl_isolation.specs.Tables.{HasTable, Suits, no_table, table_of}
-use Rattle.tl_isolation.proofs.Lookups.{weaker}
 use Rattle.tl_journal.specs.Binding.{StatementFits, TableFits}
 
 pub record QueryOn (catalog : Catalog) (query : Query) : Type 0 where

@@ -1,6 +1,7 @@
 -- A SELECT or a change is read and said: how the protocol goes on.
 use Rattle.std.proofs.Common.{◌≡◌, ℕ, ◌≤◌, Bool, true, false, ◌⊎◌, inl, inr, ⊎_elim, List, [], ◌∷◌, ◌++◌, Some, Result, refl, sym, ap, ◌∙◌, subst}
 use Rattle.std.specs.Prelude.{◌==◌, Ok, Err, if◌then◌else◌}
+use Rattle.tl_lemmas.proofs.Lists.{found}
 use Rattle.tl_base.specs.declared.place.Settings.{Settings}
 use Rattle.tl_values.specs.declared.value.Value.{Value}
 use Rattle.tl_schema.specs.declared.catalog.Catalog.{Catalog}
@@ -27,7 +28,6 @@ use Rattle.tl_isolation.specs.State.{is_refusal}
 use Rattle.tl_isolation.specs.History.{state_from}
 use Rattle.tl_isolation.specs.Step.{own_after}
 use Rattle.tl_isolation.specs.Tables.{AreHome, Suits}
-use Rattle.tl_isolation.proofs.Lookups.{found}
 use Rattle.tl_protocol.specs.Store.{Key, put, same_key}
 use Rattle.tl_protocol.specs.World.{Stage, Fresh, Opened, Answering, Txn, Fact, Phase, World, Agrees, At}
 use Rattle.tl_protocol.specs.World as protocol

@@ -1,6 +1,7 @@
 -- Where the protocol stands after the events of a journal.
 use Rattle.std.proofs.Common.{◌≡◌, ℕ, ◌+◌, ◌≤◌, Bool, true, false, List, [], ◌∷◌, ◌++◌, length, Some, refl, sym, ◌∙◌, subst}
 use Rattle.std.specs.Prelude.{◌==◌, ◌&&◌, ◌||◌, not}
+use Rattle.std.proofs.lemmas.List.{length_push}
 use Rattle.tl_base.specs.declared.place.Settings.{Settings}
 use Rattle.tl_isolation.specs.declared.script.Script.{Script}
 use Rattle.tl_isolation.specs.declared.script.Session.{Session}
@@ -24,7 +25,6 @@ use Rattle.tl_journal.proofs.Present.{ReadsFor}
 use Rattle.tl_journal.proofs.Shards.{DoingAt}
 use Rattle.tl_journal.proofs.Sizes.{NodeFits, ToldFits, fits_more}
 use Rattle.tl_journal.proofs.Store.{StoreIs}
-use Rattle.tl_journal.proofs.StoreEvents.{length_next}
 
 -- a running node
 pub record NodeStands (script : Script) (settings : Settings) (few : ℕ) (node : Node) (w : World) (n : ℕ) : Type 0 where
@@ -84,7 +84,7 @@ module _ (layout : Layout) (script : Script) (settings : Settings) (past : List 
       (sym (node_more settings script past e session ∙ after_other settings script e node other))
       (record {
         is_so = node_elsewhere (ReadsFor settings script.catalog node.todo) settings node s.world world n away stands.is_so;
-        fits = subst (λ few. NodeFits settings script.catalog few node) (sym (length_next past e)) (fits_more settings script.catalog (length past) node stands.fits);
+        fits = subst (λ few. NodeFits settings script.catalog few node) (sym (length_push past e)) (fits_more settings script.catalog (length past) node stands.fits);
         shards = stands.shards;
       })
 
@@ -99,5 +99,5 @@ module _ (layout : Layout) (script : Script) (settings : Settings) (past : List 
       (record {
         is_so = is_so;
         shards = at;
-        fits = subst (λ few. NodeFits settings script.catalog few new) (sym (length_next past e)) fits;
+        fits = subst (λ few. NodeFits settings script.catalog few new) (sym (length_push past e)) fits;
       })

@@ -22,14 +22,15 @@ use Rattle.tl_versions.specs.Cell as cells
 use Rattle.tl_versions.specs.Reading.{read_cell}
 use Rattle.tl_versions.proofs.CellReading.{cell_again}
 use Rattle.tl_protocol.specs.Store.{Key, Cell, CommitsCell, LogCell, put_at, same_key}
-use Rattle.tl_protocol.proofs.Cells.{key_eq, put_at_other, put_at_same}
+use Rattle.tl_protocol.proofs.Cells.{put_at_other, put_at_same}
 use Rattle.tl_journal.specs.declared.event.Event.{Event}
 use Rattle.tl_journal.specs.Bytes.{commits_key, log_key}
 use Rattle.tl_journal.specs.Journal.{shard_log}
 use Rattle.tl_journal.specs.Law.{IsOther}
 use Rattle.tl_journal.specs.Served.{Parts, is_record_key, stored_commits, stored_log, stored_record}
 use Rattle.tl_journal.proofs.Fits.{EntryFits, SetFits, VersionsFit}
-use Rattle.tl_journal.proofs.StoreLogs.{cell_in, commits_no_log, commits_no_record, counter_in, log_keys, log_no_record, same_key_turned}
+use Rattle.tl_journal.proofs.StoreLogs.{cell_in, commits_no_log, commits_no_record, counter_in, log_keys, log_no_record}
+use Rattle.tl_write.proofs.Keys.{key_eq, key_turned}
 
 -- what stands in the cell of a record
 pub record RecordIs (few : ℕ) (c : ShardCell) (x : Cell) : Type 0 where
@@ -130,8 +131,8 @@ module _ (few : ℕ) (bytes : Key → ShardCell) (count : ℕ) (p : Parts) (h : 
       record {
         cells = both_put (λ k (c : ShardCell) (y : Cell). is_record_key k ≡ true → RecordIs few c y) key x (record { stamp = stamp; versions = versions }) bytes p.cells
             (λ r. record { stamp = refl; read = read; fits = fits }) h.cells;
-        commits = elsewhere (λ c. CommitsIs few c p.commits) key commits_key x bytes (same_key_turned key commits_key ∙ commits_no_record key is) h.commits;
-        logs = λ tid le. elsewhere (λ c. LogIs tid c (p.logs tid)) key (log_key tid) x bytes (same_key_turned key (log_key tid) ∙ log_no_record tid key is) (h.logs tid le);
+        commits = elsewhere (λ c. CommitsIs few c p.commits) key commits_key x bytes (key_turned key commits_key ∙ commits_no_record key is) h.commits;
+        logs = λ tid le. elsewhere (λ c. LogIs tid c (p.logs tid)) key (log_key tid) x bytes (key_turned key (log_key tid) ∙ log_no_record tid key is) (h.logs tid le);
         others = λ k o. put_at_other key k x bytes (other_record key k is o) ∙ h.others k o;
         counter = h.counter;
       }
@@ -158,7 +159,7 @@ module _ (few : ℕ) (bytes : Key → ShardCell) (count : ℕ) (p : Parts) (h : 
       let x : ShardCell = record { stamp = stamp; value = logs.spelling entry } in
       record {
         cells = λ k r. elsewhere (λ c. RecordIs few c (p.cells k)) (log_key entry.tid) k x bytes (log_no_record entry.tid k r) (h.cells k r);
-        commits = elsewhere (λ c. CommitsIs few c p.commits) (log_key entry.tid) commits_key x bytes (same_key_turned (log_key entry.tid) commits_key ∙ commits_no_log entry.tid) h.commits;
+        commits = elsewhere (λ c. CommitsIs few c p.commits) (log_key entry.tid) commits_key x bytes (key_turned (log_key entry.tid) commits_key ∙ commits_no_log entry.tid) h.commits;
         logs = λ tid le. by tid le (entry.tid == tid) refl read;
         others = λ k o. put_at_other (log_key entry.tid) k x bytes (o.no_log entry.tid fits.tid) ∙ h.others k o;
         counter = h.counter;

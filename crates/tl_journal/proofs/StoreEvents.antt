@@ -4,7 +4,7 @@ use Rattle.std.specs.Prelude.{◌==◌, if◌then◌else◌}
 use Rattle.std.specs.List.{AllByRecursion}
 use Rattle.std.specs.FinMap.Entries.{find}
 use Rattle.std.proofs.lemmas.Bool.{eqb-true}
-use Rattle.std.proofs.lemmas.List.{length-append}
+use Rattle.std.proofs.lemmas.List.{length-append, length_push}
 use Rattle.tl_base.specs.declared.place.Settings.{Settings}
 use Rattle.tl_base.specs.declared.store.StoreReply.{StoreReply}
 use Rattle.tl_base.specs.declared.store.StoreReply.TheVariants as answered
@@ -41,9 +41,6 @@ stamp_found settings shard most (e ∷ es) h q = by (same_key q e.0) (stamp_foun
     by true rest = h.0.below
     by false rest = rest
 
-pub length_next : {A : Type 0} (past : List A) (e : A) → length (past ++ e ∷ []) ≡ length past + 1
-length_next past e = length-append past (e ∷ [])
-
 module _ (settings : Settings) (setup : Setup) (past : List Event) (e : Event) (s : ℕ) (c : Call) (is : IsCall e s c) (p : Parts) (h : StoreIs settings setup past p) where
   next_stores : (es : List (Key × ShardCell)) → stores (shard_log settings setup s past ++ c ∷ []) ≡ es → AreStores settings s es
       → (t : ℕ) → AreStores settings t (stores (shard_log settings setup t (past ++ e ∷ [])))
@@ -61,7 +58,7 @@ module _ (settings : Settings) (setup : Setup) (past : List Event) (e : Event) (
   pub event_kept : store_of c.request c.reply ≡ [] → ((key : Key) → added key c.request c.reply ≡ 0) → StoreIs settings setup (past ++ e ∷ []) p
   event_kept none zero_more = record {
     holds =
-        let len = length_next past e in
+        let len = length_push past e in
         holds_same (length (past ++ e ∷ []) + 1) (cell_in settings setup past) (cell_in settings setup (past ++ e ∷ [])) (counter_in settings setup past) (counter_in settings setup (past ++ e ∷ [])) p
         (cell_kept settings setup past e s c is none) (counter_kept settings setup past e s c is zero_more)
         (holds_more (length past + 1) (length (past ++ e ∷ []) + 1) (omega arith) (cell_in settings setup past) (counter_in settings setup past) p h.holds);
@@ -73,7 +70,7 @@ module _ (settings : Settings) (setup : Setup) (past : List Event) (e : Event) (
       → (after : Parts) → Holds (length past + 1) (cell_in settings setup past) (counter_in settings setup past + n) after → StoreIs settings setup (past ++ e ∷ []) after
   event_summed n none sum home after holds = record {
     holds =
-        let len = length_next past e in
+        let len = length_push past e in
         holds_same (length (past ++ e ∷ []) + 1) (cell_in settings setup past) (cell_in settings setup (past ++ e ∷ [])) (counter_in settings setup past + n) (counter_in settings setup (past ++ e ∷ [])) after
         (cell_kept settings setup past e s c is none) (counter_added settings setup past e s c is n sum home)
         (holds_more (length past + 1) (length (past ++ e ∷ []) + 1) (omega arith) (cell_in settings setup past) (counter_in settings setup past + n) after holds);
@@ -87,7 +84,7 @@ module _ (settings : Settings) (setup : Setup) (past : List Event) (e : Event) (
       → StoreIs settings setup (past ++ e ∷ []) after
   event_stored k x new zero_more home le least after holds = record {
     holds =
-        let len = length_next past e in
+        let len = length_push past e in
         holds_same (length (past ++ e ∷ []) + 1) (put_at k x (cell_in settings setup past)) (cell_in settings setup (past ++ e ∷ [])) (counter_in settings setup past) (counter_in settings setup (past ++ e ∷ [])) after
         (cell_stored settings setup past e s c is k x new home) (counter_kept settings setup past e s c is zero_more)
         (holds_more (length past + 1) (length (past ++ e ∷ []) + 1) (omega arith) (put_at k x (cell_in settings setup past)) (counter_in settings setup past) after holds);

@@ -23,16 +23,14 @@ use Rattle.tl_manager.specs.declared.request.Reply.TheVariants as reply
 use Rattle.tl_manager.specs.declared.request.Request.TheVariants as request
 use Rattle.tl_write.specs.Own.{key_cmp}
 use Rattle.tl_protocol.specs.Store.{Key, put_at, same_key}
-use Rattle.tl_protocol.proofs.Cells.{key_eq, key_itself}
 use Rattle.tl_journal.specs.declared.event.Event.{Event}
 use Rattle.tl_journal.specs.Bytes.{commits_key, counter_key, log_key}
 use Rattle.tl_journal.specs.Journal.{opening_calls, shard_call, shard_log}
 use Rattle.tl_journal.specs.Served.{is_record_key}
+use Rattle.tl_journal.proofs.Logs.{shard_more}
+use Rattle.tl_write.proofs.Keys.{key_eq, key_itself, key_turned}
 
 -- ---- keys
-
-pub same_key_turned : (k l : Key) → same_key k l ≡ same_key l k
-same_key_turned k l = (eq_by_cmp_equiv nat_list_cmp_total).symm k l
 
 -- what two record keys begin with
 pub record_key_is : (k : Key) → is_record_key k ≡ true → (rest : Key) × (k ≡ 4 ∷ rest)
@@ -74,7 +72,7 @@ cell_pushed log c k x new q =
     let all : stores (log ++ c ∷ []) ≡ (k, x) ∷ stores log = stores-push log c ∙ ap (λ (es : List (Key × ShardCell)). es ++ stores log) new in
     ap (λ (es : List (Key × ShardCell)). unwrap_or (find key_cmp q es) absent) all
     ∙ by (same_key q k)
-    ∙ ap (λ b. if b then x else cell_at log q) (same_key_turned q k)
+    ∙ ap (λ b. if b then x else cell_at log q) (key_turned q k)
   where
     by : (b : Bool) → unwrap_or (cond b (Some x) (find key_cmp q (stores log))) absent ≡ (if b then x else cell_at log q)
     by true = refl
@@ -105,16 +103,9 @@ call_of e s asked answer at_shard is_asked is_answer t = λ i. shard_call t (at_
 unfoldable pub calls_of : ℕ → Event → List Call
 calls_of s e = shard_call s e.place e.request e.reply
 
-pub log_grows : (settings : Settings) (setup : Setup) (s : ℕ) (past : List Event) (e : Event)
-    → shard_log settings setup s (past ++ e ∷ []) ≡ shard_log settings setup s past ++ shard_call s e.place e.request e.reply
-unfolding calls_of
-log_grows settings setup s past e =
-    ap (λ (more : List Call). opening_calls settings setup s ++ more) (flat_map-append (calls_of s) past (e ∷ []) ∙ ap (λ (last : List Call). flat_map (calls_of s) past ++ last) (append-nil (calls_of s e)))
-    ∙ sym (append_assoc (opening_calls settings setup s) (flat_map (calls_of s) past) (calls_of s e))
-
 module _ (settings : Settings) (setup : Setup) (past : List Event) (e : Event) (s : ℕ) (c : Call) (is : IsCall e s c) where
   pub log_of : (t : ℕ) → shard_log settings setup t (past ++ e ∷ []) ≡ (if s == t then shard_log settings setup t past ++ c ∷ [] else shard_log settings setup t past)
-  log_of t = log_grows settings setup t past e ∙ ap (λ (more : List Call). shard_log settings setup t past ++ more) (is t) ∙ by (s == t) (shard_log settings setup t past)
+  log_of t = shard_more settings setup t past e ∙ ap (λ (more : List Call). shard_log settings setup t past ++ more) (is t) ∙ by (s == t) (shard_log settings setup t past)
     where
       by : (b : Bool) (log : List Call) → log ++ (if b then c ∷ [] else []) ≡ (if b then log ++ c ∷ [] else log)
       by true log = refl

@@ -25,14 +25,14 @@ use Rattle.tl_write.specs.Own.{key_cmp}
 use Rattle.tl_isolation.specs.Tables.{opening_writes}
 use Rattle.tl_protocol.specs.Store.{Key, last_of, same_key, written}
 use Rattle.tl_protocol.specs.Run.{Layout, opening_versions, opening_world}
-use Rattle.tl_protocol.proofs.Cells.{key_eq}
 use Rattle.tl_journal.specs.Binding.{IsBrief, WriteFits}
 use Rattle.tl_journal.specs.Bytes.{commits_key, counter_key, log_key}
 use Rattle.tl_journal.specs.Journal.{opening_calls, opening_cells, shard_log, stores_from}
 use Rattle.tl_journal.specs.Served.{is_record_key, parts_of}
 use Rattle.tl_journal.proofs.Fits.{VersionsFit}
 use Rattle.tl_journal.proofs.Store.{AreStores, RecordIs, StoreIs, StoreOk, holds_same, other_record}
-use Rattle.tl_journal.proofs.StoreLogs.{cell_in, commits_no_log, commits_no_record, counter_in, log_no_record, same_key_turned}
+use Rattle.tl_journal.proofs.StoreLogs.{cell_in, commits_no_log, commits_no_record, counter_in, log_no_record}
+use Rattle.tl_write.proofs.Keys.{key_eq, key_turned}
 
 -- a row that can be stored
 abbrev RowIs : Option (List Value) → Type 0
@@ -128,7 +128,7 @@ passes settings s q c cs P other h n = by (lives_at settings s c)
     by true =
         let rest : List Entry = opened (n + 1) (filter (lives_at settings s) cs) in
         let x : ShardCell = record { stamp = n + 1; value = c.1 } in
-        subst P (sym (find_last q rest c.0 x ∙ ap (λ (b : Bool). last_of (if b then Some x else None) (find key_cmp q rest)) (same_key_turned q c.0 ∙ other) ∙ last_none (find key_cmp q rest))) (h (n + 1))
+        subst P (sym (find_last q rest c.0 x ∙ ap (λ (b : Bool). last_of (if b then Some x else None) (find key_cmp q rest)) (key_turned q c.0 ∙ other) ∙ last_none (find key_cmp q rest))) (h (n + 1))
     by false = h n
 
 opens : (settings : Settings) (s : ℕ) (q : Key) → shard_of_key q settings.shards ≡ s → (ws : List Write) (n : ℕ)
@@ -148,7 +148,7 @@ opens settings s q home (w ∷ ws) n = by (same_key w.key q) refl (λ m. opens s
         let looked : find key_cmp q (opened n (filter (lives_at settings s) (map spelled (w ∷ ws)))) ≡ last_of (Some x) (find key_cmp q others) =
         ap (λ (b : Bool). find key_cmp q (opened n (cond b (spelled w ∷ filter (lives_at settings s) (map spelled ws)) (filter (lives_at settings s) (map spelled ws))))) lives
         ∙ find_last q others w.key x
-        ∙ ap (λ (b : Bool). last_of (if b then Some x else None) (find key_cmp q others)) (same_key_turned q w.key ∙ e) in
+        ∙ ap (λ (b : Bool). last_of (if b then Some x else None) (find key_cmp q others)) (key_turned q w.key ∙ e) in
         subst (λ (o : Option ShardCell). OpensAs o (last_of (Some w.row) (written q ws))) (sym looked)
         (last_both (Some x) (find key_cmp q others) (Some w.row) (written q ws) refl (rest (n + 1)))
 
@@ -239,7 +239,7 @@ module _ (settings : Settings) (setup : Setup) where
       let x : ShardCell = record { stamp = 1; value = sets.spelling opening_copy } in
       let rest : List Stored = filter (lives_at settings s) (map spelled (opening_writes setup.catalog setup.rows)) in
       let unwritten : written commits_key (opening_writes setup.catalog setup.rows) ≡ None =
-      none_written commits_key (opening_writes setup.catalog setup.rows) fits (λ k r. same_key_turned k commits_key ∙ commits_no_record k r) in
+      none_written commits_key (opening_writes setup.catalog setup.rows) fits (λ k r. key_turned k commits_key ∙ commits_no_record k r) in
       let none : find key_cmp commits_key (opened 1 rest) ≡ None =
       not_found (find key_cmp commits_key (opened 1 rest))
       (subst (λ o. OpensAs (find key_cmp commits_key (opened 1 rest)) o) unwritten (opens settings s commits_key refl (opening_writes setup.catalog setup.rows) 1)) in
@@ -268,7 +268,7 @@ module _ (settings : Settings) (setup : Setup) where
           };
       logs = λ tid le.
           let unwritten : written (log_key tid) (opening_writes setup.catalog setup.rows) ≡ None =
-          none_written (log_key tid) (opening_writes setup.catalog setup.rows) fits (λ k r. same_key_turned k (log_key tid) ∙ log_no_record tid k r) in
+          none_written (log_key tid) (opening_writes setup.catalog setup.rows) fits (λ k r. key_turned k (log_key tid) ∙ log_no_record tid k r) in
           let none : looked (log_key tid) ≡ None = not_found (looked (log_key tid)) (subst (λ o. OpensAs (looked (log_key tid)) o) unwritten (others_open (log_key tid) (commits_no_log tid))) in
           let is : shown (log_key tid) ≡ absent = ap (λ (o : Option ShardCell). unwrap_or o absent) none in
           (ap (λ (c : ShardCell). c.stamp) is, ap (λ (c : ShardCell). c.value) is);

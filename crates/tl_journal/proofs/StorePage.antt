@@ -5,6 +5,7 @@ use Rattle.std.specs.Ordering.{is_le, is_lt, nat_cmp, ordering_reverse, ordering
 use Rattle.std.specs.Cmp.Lexicographic.{nat_list_cmp_total, slice_cmp}
 use Rattle.std.proofs.lemmas.Bool.{false≢true}
 use Rattle.std.proofs.lemmas.Bool.Decides.{nat_tests}
+use Rattle.tl_lemmas.proofs.Orders.{less_is}
 use Rattle.tl_write.specs.Own.{key_cmp}
 use Rattle.tl_protocol.specs.Store.{Key}
 use Rattle.tl_journal.specs.Served.{is_record_key}
@@ -14,11 +15,6 @@ use Rattle.tl_journal.proofs.StoreLogs.{record_key_is}
 
 turned : (a b : Key) → key_cmp a b ≡ ordering_reverse (key_cmp b a)
 turned a b = nat_list_cmp_total.antisymm a b
-
-less_is : (o : Ordering) → is_lt o ≡ true → o ≡ Less
-less_is Less h = refl
-less_is Equal h = absurd (false≢true h)
-less_is Greater h = absurd (false≢true h)
 
 pub below_below : (a b c : Key) → is_lt (key_cmp a b) ≡ true → is_lt (key_cmp b c) ≡ true → is_lt (key_cmp a c) ≡ true
 below_below a b c h g = ap is_lt (nat_list_cmp_total.trans a b c (less_is (key_cmp a b) h) (less_is (key_cmp b c) g))

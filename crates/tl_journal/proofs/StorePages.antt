@@ -8,6 +8,7 @@ use Rattle.std.specs.Cmp.Lexicographic.{nat_list_cmp_total}
 use Rattle.std.specs.FinMap as finmap
 use Rattle.std.specs.FinMap.Entries.{below_all, find, is_sorted}
 use Rattle.std.proofs.lemmas.Bool.{and_from, and_parts, false≢true, not_from_false, or_parts}
+use Rattle.tl_lemmas.proofs.Tests.{held, holds}
 use Rattle.tl_base.specs.declared.place.Settings.{Settings}
 use Rattle.tl_base.specs.declared.store.Item.{Item}
 use Rattle.tl_cells.specs.declared.cell.Cell.{Cell as ShardCell}
@@ -15,49 +16,28 @@ use Rattle.tl_cells.specs.Cells.{item_of}
 use Rattle.tl_versions.specs.Reading.{read_cell}
 use Rattle.tl_write.specs.Own.{key_cmp}
 use Rattle.tl_protocol.specs.Store.{Key, Cell, same_key}
-use Rattle.tl_protocol.proofs.Cells.{key_eq}
 use Rattle.tl_journal.specs.Ask.{Found}
 use Rattle.tl_journal.specs.Bytes.{found_before, found_in}
 use Rattle.tl_journal.specs.Reads.{key_behind}
 use Rattle.tl_journal.specs.Served.{IsWithin, are_rising, is_found, is_record_key}
 use Rattle.tl_journal.proofs.Fits.{FoundFits, VersionsFit}
 use Rattle.tl_journal.proofs.ReadSizes.{within_is_record}
-use Rattle.tl_journal.proofs.StoreLogs.{same_key_turned}
 use Rattle.tl_journal.proofs.StorePage.{below_below, right_behind}
+use Rattle.tl_write.proofs.Keys.{key_eq, key_turned, none_below}
 
 abbrev Entry : Type 0
 Entry = Key × ShardCell
 
 -- ---- entries in the order of their keys
 
-pub true_if : (b : Bool) → T b → b ≡ true
-true_if true h = refl
-true_if false h = absurd h
-
-pub if_true : (b : Bool) → b ≡ true → T b
-if_true true h = tt
-if_true false h = absurd (false≢true h)
-
 sorted : (m : finmap.FinMap key_cmp ShardCell) → is_sorted key_cmp (finmap.entries m) ≡ true
-sorted m = true_if (is_sorted key_cmp (finmap.entries m)) (finmap.entries_sorted m)
+sorted m = held (is_sorted key_cmp (finmap.entries m)) (finmap.entries_sorted m)
 
 below_lower : (k l : Key) (es : List Entry) → is_lt (key_cmp k l) ≡ true → below_all key_cmp l es ≡ true → below_all key_cmp k es ≡ true
 below_lower k l [] h g = refl
 below_lower k l (e ∷ es) h g =
     let parts = and_parts (is_lt (key_cmp l e.0)) (below_all key_cmp l es) g in
     and_from (is_lt (key_cmp k e.0)) (below_all key_cmp k es) (below_below k l e.0 h parts.0) (below_lower k l es h parts.1)
-
--- a key below each of these has no entry
-none_below : (k : Key) (es : List Entry) → below_all key_cmp k es ≡ true → find key_cmp k es ≡ None
-none_below k [] h = refl
-none_below k (e ∷ es) h =
-    let parts = and_parts (is_lt (key_cmp k e.0)) (below_all key_cmp k es) h in
-    ap (λ (b : Bool). cond b (Some e.1) (find key_cmp k es)) (apart (key_cmp k e.0) parts.0) ∙ none_below k es parts.1
-  where
-    apart : (o : Ordering) → is_lt o ≡ true → is_eq o ≡ false
-    apart Less i = refl
-    apart Equal i = absurd (false≢true i)
-    apart Greater i = refl
 
 -- what is so of each look-up is so of each entry
 pub each_entry : (P : Key → ShardCell → Type 0) (es : List Entry) → is_sorted key_cmp es ≡ true
@@ -179,7 +159,7 @@ module _ (cells : Key → Cell) where
   whole_lacks key [] h = refl
   whole_lacks key (e ∷ es) h =
       let parts = or_parts (same_key e.0 key) (is_found key (map found_of es)) h in
-      ap (λ b. cond b (Some e.1) (find key_cmp key es)) (same_key_turned key e.0 ∙ parts.0) ∙ whole_lacks key es parts.1
+      ap (λ b. cond b (Some e.1) (find key_cmp key es)) (key_turned key e.0 ∙ parts.0) ∙ whole_lacks key es parts.1
 
   above_other : (o : Ordering) → is_lt o ≡ false → is_eq (ordering_reverse o) ≡ false → is_lt (ordering_reverse o) ≡ true
   above_other Less h g = absurd (false≢true (sym h))
@@ -209,4 +189,4 @@ module _ (cells : Key → Cell) where
           let turned : key_cmp e.0 key ≡ ordering_reverse (key_cmp key e.0) = nat_list_cmp_total.antisymm e.0 key in
           let above : is_lt (key_cmp e.0 key) ≡ true = ap is_lt turned ∙ above_other (key_cmp key e.0) t (ap is_eq (sym turned) ∙ others.0) in
           let rest = more above in
-          (ap (λ x. cond x (Some e.1) (find key_cmp key es)) (same_key_turned key e.0 ∙ others.0) ∙ rest.0, rest.1)
+          (ap (λ x. cond x (Some e.1) (find key_cmp key es)) (key_turned key e.0 ∙ others.0) ∙ rest.0, rest.1)

@@ -8,6 +8,7 @@ use Rattle.std.specs.FinMap as finmap
 use Rattle.std.specs.FinMap.Entries.{find, find-where_key, is_sorted, is_sorted-where_key}
 use Rattle.std.proofs.lemmas.Bool.{and_from, and_parts, ltb-false, ltb-true}
 use Rattle.std.proofs.lemmas.List.{length-map, take_all}
+use Rattle.tl_lemmas.proofs.Tests.{held}
 use Rattle.tl_base.specs.declared.place.Settings.{Settings}
 use Rattle.tl_schema.specs.declared.catalog.Setup.{Setup}
 use Rattle.tl_cells.specs.declared.cell.Cell.{Cell as ShardCell}
@@ -19,7 +20,6 @@ use Rattle.tl_versions.specs.Reading.{read_cell}
 use Rattle.tl_write.specs.Own.{key_cmp}
 use Rattle.tl_protocol.specs.Move.{is_empty}
 use Rattle.tl_protocol.specs.Store.{Key, Cell, same_key}
-use Rattle.tl_protocol.proofs.Cells.{key_eq}
 use Rattle.tl_journal.specs.declared.event.Event.{Event}
 use Rattle.tl_journal.specs.Ask.{Found}
 use Rattle.tl_journal.specs.Bytes.{found_in}
@@ -29,7 +29,8 @@ use Rattle.tl_journal.proofs.Fits.{FoundFits}
 use Rattle.tl_journal.proofs.Store.{RecordIs, StoreIs, StoreOk}
 use Rattle.tl_journal.proofs.StoreLogs.{cell_in}
 use Rattle.tl_journal.proofs.StorePage.{between_records, from_on, not_before}
-use Rattle.tl_journal.proofs.StorePages.{EntryOk, all_filtered, all_taken, below_each, each_entry, found_of, from_each, pages_are, pages_fit, pages_found, pages_rise, pages_stored, part_lacks, sorted_taken, taken_items, true_if, whole_lacks}
+use Rattle.tl_journal.proofs.StorePages.{EntryOk, all_filtered, all_taken, below_each, each_entry, found_of, from_each, pages_are, pages_fit, pages_found, pages_rise, pages_stored, part_lacks, sorted_taken, taken_items, whole_lacks}
+use Rattle.tl_write.proofs.Keys.{key_eq}
 
 abbrev pub Entry : Type 0
 Entry = Key × ShardCell
@@ -47,7 +48,7 @@ range_entries log from before = filter (λ (e : Entry). in_range from before e.0
 pub range_sorted : (log : List Call) (from before : Key) → is_sorted key_cmp (range_entries log from before) ≡ true
 range_sorted log from before =
     let m : Cells = finmap.from_entries (stores log) in
-    true_if (is_sorted key_cmp (range_entries log from before)) (is_sorted-where_key key_cmp (in_range from before) (entries_of log) (finmap.entries_sorted m))
+    held (is_sorted key_cmp (range_entries log from before)) (is_sorted-where_key key_cmp (in_range from before) (entries_of log) (finmap.entries_sorted m))
 
 none_read : read_cell [] ≡ Some []
 unfolding read_cell
@@ -127,7 +128,7 @@ module _ (settings : Settings) (setup : Setup) (past : List Event) (p : Parts) (
       let m : Cells = finmap.from_entries (stores log) in
       all_filtered (EntryOk (length past + 1) settings p.cells shard from before) (λ (e : Entry). in_range from before e.0) (entries_of log)
       (each_entry (λ (k : Key) (x : ShardCell). in_range from before k ≡ true → EntryOk (length past + 1) settings p.cells shard from before (k, x)) (entries_of log)
-      (true_if (is_sorted key_cmp (finmap.entries m)) (finmap.entries_sorted m)) entry_ok)
+      (held (is_sorted key_cmp (finmap.entries m)) (finmap.entries_sorted m)) entry_ok)
 
   entries_sorted : is_sorted key_cmp entries ≡ true
   unfolding log entries

@@ -3,6 +3,7 @@ use Rattle.std.proofs.Common.{◌≡◌, ℕ, ◌+◌, ◌<◌, Bool, true, fals
 use Rattle.std.specs.Prelude.{◌==◌, if◌then◌else◌}
 use Rattle.std.specs.List.{AllByRecursion, flat_map}
 use Rattle.std.proofs.lemmas.List.Concat.{flat_map-append}
+use Rattle.std.proofs.lemmas.List.{length_push}
 use Rattle.tl_base.specs.Along.{Along}
 use Rattle.tl_base.specs.declared.place.PlaceId.{PlaceId}
 use Rattle.tl_base.specs.declared.place.PlaceId.TheVariants as place
@@ -23,8 +24,8 @@ use Rattle.tl_journal.specs.Bytes.{commits_key, counter_key, log_key}
 use Rattle.tl_journal.specs.Journal.{AreServed, opening_calls, shard_call, shard_log}
 use Rattle.tl_journal.specs.Served.{Parts}
 use Rattle.tl_journal.proofs.Store.{AreStores, CommitsIs, LogIs, RecordIs, StoreIs, holds_more, holds_same}
-use Rattle.tl_journal.proofs.StoreEvents.{length_next}
-use Rattle.tl_journal.proofs.StoreLogs.{calls_of, cell_in, counter_in, log_grows}
+use Rattle.tl_journal.proofs.StoreLogs.{calls_of, cell_in, counter_in}
+use Rattle.tl_journal.proofs.Logs.{shard_more}
 
 -- parts with the same store: the managers' parts may be others
 pub record SameStore (p after : Parts) : Type 0 where
@@ -50,7 +51,7 @@ pub store_quiet : (settings : Settings) (setup : Setup) (past : List Event) (e :
     → ((s : ℕ) → shard_call s e.place e.request e.reply ≡ []) → StoreIs settings setup past p → StoreIs settings setup (past ++ e ∷ []) p
 store_quiet settings setup past e p quiet h = record {
   holds =
-      let len = length_next past e in
+      let len = length_push past e in
       holds_same (length (past ++ e ∷ []) + 1) (cell_in settings setup past) (cell_in settings setup (past ++ e ∷ [])) (counter_in settings setup past) (counter_in settings setup (past ++ e ∷ [])) p
       (λ k. ap (λ (log : List Call). cell_at log k) (same (shard_of_key k settings.shards)))
       (ap (λ (log : List Call). count_at log counter_key) (same (shard_of_key counter_key settings.shards)))
@@ -59,7 +60,7 @@ store_quiet settings setup past e p quiet h = record {
 }
   where
     same : (s : ℕ) → shard_log settings setup s (past ++ e ∷ []) ≡ shard_log settings setup s past
-    same s = log_grows settings setup s past e ∙ ap (λ (more : List Call). shard_log settings setup s past ++ more) (quiet s) ∙ append-nil (shard_log settings setup s past)
+    same s = shard_more settings setup s past e ∙ ap (λ (more : List Call). shard_log settings setup s past ++ more) (quiet s) ∙ append-nil (shard_log settings setup s past)
 
 -- an event at a manager leaves the store, whatever it changes at the managers
 pub store_stays : (settings : Settings) (setup : Setup) (past : List Event) (e : Event) (p after : Parts) (m : ℕ) → e.place ≡ place.Manager m

@@ -9,6 +9,7 @@ use Rattle.std.proofs.lemmas.Bool.Decides.{nat_tests}
 use Rattle.std.proofs.lemmas.List.{length-append, length-map}
 use Rattle.std.proofs.lemmas.List.Sums.{count_by-le-length, length-filter}
 use Rattle.std.proofs.lemmas.Nat.{mod_below}
+use Rattle.tl_lemmas.proofs.Lists.{all_append}
 use Rattle.tl_base.specs.Along.{Along}
 use Rattle.tl_base.specs.declared.place.PlaceId.{PlaceId}
 use Rattle.tl_base.specs.declared.place.PlaceId.TheVariants as place
@@ -46,7 +47,6 @@ use Rattle.tl_journal.specs.Served.{parts_of}
 use Rattle.tl_journal.proofs.Heeded.{is_call, shard_reply}
 use Rattle.tl_journal.proofs.Logs.{at_event}
 use Rattle.tl_journal.proofs.Managers.{is_of_shard}
-use Rattle.tl_journal.proofs.Shards.{all_append}
 use Rattle.tl_journal.proofs.StoreLogs.{call_of, calls_of, counter_in}
 use Rattle.tl_journal.proofs.StoreOpening.{spelled}
 use Rattle.tl_journal.proofs.StoreServes.{follows_log}

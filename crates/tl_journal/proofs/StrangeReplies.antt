@@ -4,6 +4,8 @@ use Rattle.std.specs.List.{AllByRecursion}
 use Rattle.std.proofs.lemmas.Bool.{and_from, both_ways, or_from}
 use Rattle.std.proofs.lemmas.List.{length-append}
 use Rattle.std.specs.Prelude.{◌==◌, ◌||◌, if◌then◌else◌}
+use Rattle.std.proofs.lemmas.Option.{same_Some}
+use Rattle.tl_lemmas.proofs.Lists.{found}
 use Rattle.tl_base.specs.declared.place.Settings.{Settings}
 use Rattle.tl_schema.specs.declared.catalog.Catalog.{Catalog}
 use Rattle.tl_cells.specs.declared.cell.Cell.{Cell as ShardCell}
@@ -13,9 +15,7 @@ use Rattle.tl_isolation.specs.declared.script.Script.{Script}
 use Rattle.tl_isolation.specs.declared.script.Session.{Session}
 use Rattle.tl_isolation.specs.History.{state_after}
 use Rattle.tl_isolation.specs.Script.{setup_of}
-use Rattle.tl_isolation.proofs.Lookups.{found}
 use Rattle.tl_protocol.specs.Store.{LogCell}
-use Rattle.tl_protocol.proofs.Frames.{some_same}
 use Rattle.tl_journal.specs.declared.event.Event.{Event}
 use Rattle.tl_journal.specs.Ask.{Ask, Heard, Strange}
 use Rattle.tl_journal.specs.Asks.{asks}
@@ -55,8 +55,8 @@ module _ (script : Script) (settings : Settings) (past : List Event) (e : Event)
     (ask : Ask) (asked : asks settings script.catalog (node_after settings script past session) ≡ Some ask) where
   same_ask : (other : Session) (its : Ask) → session_of script e.node ≡ Some other → asks settings script.catalog (node_after settings script past other) ≡ Some its → its ≡ ask
   same_ask other its is_other is_asked =
-      some_same its ask
-      (sym is_asked ∙ ap (λ (x : Session). asks settings script.catalog (node_after settings script past x)) (some_same other session (sym is_other ∙ is_session)) ∙ asked)
+      same_Some its ask
+      (sym is_asked ∙ ap (λ (x : Session). asks settings script.catalog (node_after settings script past x)) (same_Some other session (sym is_other ∙ is_session)) ∙ asked)
 
   made : (other : Session) (its : Ask) → session_of script e.node ≡ Some other → asks settings script.catalog (node_after settings script past other) ≡ Some its
       → has_vanished past e.node ≡ false → e.place ≡ place_of settings its → e.request ≡ written its → Makes settings past e ask

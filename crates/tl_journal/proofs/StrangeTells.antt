@@ -6,8 +6,9 @@ use Rattle.std.specs.Ordering.{is_lt}
 use Rattle.std.specs.FinMap as finmap
 use Rattle.std.specs.FinMap.Entries.{below_all, find, is_sorted}
 use Rattle.std.specs.Cmp.Lexicographic.{nat_list_cmp_total}
-use Rattle.std.proofs.lemmas.Bool.{and_from, and_parts, eqb-true, le-leb, lt-ltb, ltb-true, not_from_false}
+use Rattle.std.proofs.lemmas.Bool.{and_from, and_parts, eqb-true, le-leb, lt-ltb, ltb-true, not_from_false, or_left}
 use Rattle.std.proofs.lemmas.Bool.Decides.{nat_tests}
+use Rattle.tl_lemmas.proofs.Tests.{held}
 use Rattle.tl_base.specs.Along.{Along}
 use Rattle.tl_base.specs.declared.place.PlaceId.TheVariants as place
 use Rattle.tl_base.specs.declared.place.Settings.{Settings}
@@ -46,7 +47,7 @@ use Rattle.tl_journal.proofs.Managers.{is_of_shard}
 use Rattle.tl_journal.proofs.Store.{AreStores, LogIs, StoreOk}
 use Rattle.tl_journal.proofs.StoreLogs.{call_of, cell_in}
 use Rattle.tl_journal.proofs.StorePage.{not_before}
-use Rattle.tl_journal.proofs.StorePages.{all_filtered, all_taken, each_entry, sorted_taken, taken_items, true_if}
+use Rattle.tl_journal.proofs.StorePages.{all_filtered, all_taken, each_entry, sorted_taken, taken_items}
 use Rattle.tl_journal.proofs.StoreRanges.{Entry, entries_of, in_range, range_entries, range_sorted}
 use Rattle.tl_journal.proofs.StoreServes.{IsAtShard, follows_log}
 use Rattle.tl_journal.proofs.StoreStays.{events_answered}
@@ -80,15 +81,12 @@ found_given settings s most es h k = by (find key_cmp k es) refl
 above_zero : (n : ℕ) → 1 ≤ n → (n == 0) ≡ false
 above_zero n h = grind (arith, nat_tests)
 
-either : (a b : Bool) → a ≡ true → a || b ≡ true
-either a b h = grind arith
-
 cell_is : (most : ℕ) → most ≤ greatest → (c : ShardCell) → (c ≡ absent) ⊎ IsGiven most c → is_cell c.stamp c.value ≡ true
 cell_is most le c (inl h) = subst (λ (x : ShardCell). is_cell x.stamp x.value ≡ true) (sym h) refl
 cell_is most le c (inr h) =
     let top : c.stamp ≤ most = h.1 in
     and_from (nat_le c.stamp greatest) (not (c.stamp == 0) || is_empty c.value) (le-leb c.stamp greatest (omega arith))
-    (either (not (c.stamp == 0)) (is_empty c.value) (not_from_false (c.stamp == 0) (above_zero c.stamp h.0)))
+    (or_left (not (c.stamp == 0)) (is_empty c.value) (not_from_false (c.stamp == 0) (above_zero c.stamp h.0)))
 
 no_entry : read_entry [] ≡ None
 unfolding read_entry read_mark
@@ -207,7 +205,7 @@ module _ (settings : Settings) (setup : Setup) (shard : ℕ) (past : List Event)
       let m : Cells = finmap.from_entries (stores log) in
       all_filtered (IsPaged from before (length (stores log))) (λ (e : Entry). in_range from before e.0) (entries_of log)
       (each_entry (λ (k : Key) (x : ShardCell). in_range from before k ≡ true → IsPaged from before (length (stores log)) (k, x)) (entries_of log)
-      (true_if (is_sorted key_cmp (finmap.entries m)) (finmap.entries_sorted m)) entry_paged)
+      (held (is_sorted key_cmp (finmap.entries m)) (finmap.entries_sorted m)) entry_paged)
 
   page_is : length (stores (shard_log settings setup shard past)) ≤ greatest
       → is_page from before (take page_limit (map item_of (range_entries (shard_log settings setup shard past) from before)))

@@ -4,6 +4,7 @@ use Rattle.std.specs.Prelude.{◌==◌, ◌&&◌, ◌||◌, not, map, if◌then�
 use Rattle.std.specs.List.{AllByRecursion}
 use Rattle.std.proofs.lemmas.Bool.{eq-eqb, eqb-true, ltb-true}
 use Rattle.std.proofs.lemmas.List.Elements.{All-from_recursion}
+use Rattle.std.proofs.lemmas.Option.{same_Some}
 use Rattle.tl_base.specs.Along.{Along}
 use Rattle.tl_base.specs.declared.place.Settings.{Settings}
 use Rattle.tl_base.specs.declared.store.StoreReply.TheVariants as answered
@@ -37,7 +38,6 @@ use Rattle.tl_isolation.specs.Script.{setup_of}
 use Rattle.tl_protocol.specs.Store.{put}
 use Rattle.tl_protocol.specs.Told.{says}
 use Rattle.tl_protocol.proofs.Account.{access_equal, bank, opening_rows, with_balance}
-use Rattle.tl_protocol.proofs.Frames.{some_same}
 use Rattle.tl_protocol.proofs.Meanings.{Updating}
 use Rattle.tl_journal.specs.declared.event.Event.{Event}
 use Rattle.tl_journal.specs.Ask.{StoreCommits, LoadRecord, StoreRecord, StoreLog, DrawNumbers, AskManager, Numbers}
@@ -525,8 +525,8 @@ start_stands =
     one : (k : ℕ) (b c : Bool) → (1 == k) ≡ b → (2 == k) ≡ c → (s : Session)
         → (if b then Some (session_by 1 take_ten) else (if c then Some (session_by 2 add_five) else None)) ≡ Some s
         → (opening_node by_default s ≡ starts k) × ((starts k).number ≡ k)
-    one k true c f g s e = subst (λ (m : ℕ). (opening_node by_default s ≡ starts m) × ((starts m).number ≡ m)) (eqb-true 1 k f) (ap (opening_node by_default) (sym (some_same _ _ e)), refl)
-    one k false true f g s e = subst (λ (m : ℕ). (opening_node by_default s ≡ starts m) × ((starts m).number ≡ m)) (eqb-true 2 k g) (ap (opening_node by_default) (sym (some_same _ _ e)), refl)
+    one k true c f g s e = subst (λ (m : ℕ). (opening_node by_default s ≡ starts m) × ((starts m).number ≡ m)) (eqb-true 1 k f) (ap (opening_node by_default) (sym (same_Some _ _ e)), refl)
+    one k false true f g s e = subst (λ (m : ℕ). (opening_node by_default s ≡ starts m) × ((starts m).number ≡ m)) (eqb-true 2 k g) (ap (opening_node by_default) (sym (same_Some _ _ e)), refl)
     one k false false f g s e = absurd cc
 
 accepts_so : Along (λ (past : List Event) (e : Event). IsEvent script_conflict by_default past e × IsWhole script_conflict by_default past e) [] events_conflict

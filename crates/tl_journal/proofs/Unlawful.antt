@@ -3,6 +3,7 @@ use Rattle.std.proofs.Common.{◌≡◌, ◌⊎◌, inl, inr, suc, ◌<◌, ◌�
 use Rattle.std.specs.Prelude.{◌==◌, ◌&&◌, ◌||◌, filter, not, if◌then◌else◌}
 use Rattle.std.proofs.lemmas.Bool.Decides.{nat_tests}
 use Rattle.std.proofs.lemmas.Bool.{and_parts, both_ways, eq-eqb}
+use Rattle.tl_lemmas.proofs.Tests.{and_not}
 use Rattle.tl_base.specs.declared.place.Settings.{Settings}
 use Rattle.tl_isolation.specs.declared.entry.Ending.TheVariants as ending
 use Rattle.tl_isolation.specs.declared.script.Script.{Script}
@@ -72,11 +73,6 @@ has_one p (y ∷ ys) x e = by (p y) (has_one p ys x e)
     by true h = longer (length (filter p (ys ++ x ∷ [])))
     by false h = h
 
-both_so : (a b : Bool) → a ≡ true → b ≡ false → (a && not b) ≡ true
-both_so true false e f = refl
-both_so true true e f = absurd cc
-both_so false b e f = absurd cc
-
 module _ (script : Script) (settings : Settings) (past : List Event) (e : Event) (rest : List Event) (run : IsRun script settings (past ++ e ∷ rest)) (cut : IsCut script settings past e) where
   no_post : is_post e.request ≡ false
   no_post = request_no_post script settings past e cut.session cut.ask cut.bytes cut.asked
@@ -102,7 +98,7 @@ module _ (script : Script) (settings : Settings) (past : List Event) (e : Event)
 
   owes : owes_notice script settings (past ++ e ∷ []) e.node ≡ true
   owes =
-      all_three _ _ _ _ _ (has_one (λ (x : Event). (x.node == e.node) && not (is_post x.request)) past e (both_so (e.node == e.node) (is_post e.request) (eq-eqb e.node e.node refl) no_post))
+      all_three _ _ _ _ _ (has_one (λ (x : Event). (x.node == e.node) && not (is_post x.request)) past e (and_not (e.node == e.node) (is_post e.request) (eq-eqb e.node e.node refl) no_post))
       (vanished_same past e e.node no_post ∙ cut.runs) is_cut_off
 
   -- so directly behind it stands its notice, and nothing of another node

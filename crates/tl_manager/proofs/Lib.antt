@@ -1,5 +1,5 @@
-pub mod Given
+mod Given
 pub mod Log
 pub mod Low
 pub mod Numbers
-pub mod Places
+mod Places

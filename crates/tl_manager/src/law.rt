@@ -11,8 +11,6 @@ ghost use Rattle.tl_manager.specs.declared.request.ManagerReply.TheVariants as r
 ghost use Rattle.tl_manager.specs.declared.request.ManagerRequest.{ManagerRequest};
 ghost use Rattle.tl_manager.specs.declared.request.ManagerRequest.TheVariants as request;
 
-use tl_descriptor::begins_is_an_order;
-
 /// A manager whose state is what its log says answers each request as the log calls for, and its next state is what
 /// the log says with this call. So a log that grows by a manager's calls is one that the manager serves. A notice that
 /// was given is there no longer.
@@ -41,6 +39,4 @@ pub fn floor_begins_all()
         → AllByRecursion (λ snapshot. begins (floor_of copy active) snapshot ≡ true) (snapshots_of active) }
     ensures stays { (copy : TidSet) (active : List Active) (tid node : ℕ) → AllByRecursion IsCanonical (copy ∷ snapshots_of active)
         → floor_of copy (active ++ record { tid = tid; node = node; snapshot = copy } ∷ []) ≡ floor_of copy active }
-{
-    begins_is_an_order();
-}
+{}

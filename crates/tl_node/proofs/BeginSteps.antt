@@ -2,6 +2,7 @@
 use Rattle.std.proofs.Common.{◌≡◌, ℕ, ◌+◌, ◌^◌, Bool, true, false, List, [], Option, Some, None, refl, sym, subst, arith}
 use Rattle.std.specs.Prelude.{not, ◌&&◌, ◌||◌, nat_le, nat_lt}
 use Rattle.std.proofs.lemmas.Bool.Decides.{nat_tests}
+use Rattle.std.proofs.lemmas.Bool.{or_right}
 use Rattle.tl_base.specs.declared.place.Settings.{Settings}
 use Rattle.tl_schema.specs.declared.catalog.Catalog.{Catalog}
 use Rattle.tl_descriptor.specs.Tids.{TidSet, has}
@@ -44,10 +45,6 @@ even_begin most tid false e = grind (arith, nat_tests)
 even_drawn : (most old : ℕ) → not (nat_le old most) ≡ false → nat_lt most old ≡ false
 even_drawn most old e = grind (arith, nat_tests)
 
-either : (a b : Bool) → b ≡ true → (a || b) ≡ true
-either true b e = refl
-either false b e = e
-
 abbrev pub IsPlain : Mark → Type 0
 IsPlain mark.Quiet = Unit {0}
 IsPlain mark.Asked = Unit {0}
@@ -86,7 +83,7 @@ module _ (settings : Settings) (catalog : Catalog) (node : Node) (statement : Bo
 
   unless : (before : Phase) (heard : Heard) (after : Node) (said : List Commit → List Entry) (odd b : Bool) (taken : Taken) → (b ≡ true → odd ≡ true)
       → (b ≡ false → Outcome before heard after said odd taken) → Outcome before heard after said odd (unless_odd b taken)
-  unless before heard after said odd true taken h o = either (is_stopped after.doing) odd (h refl)
+  unless before heard after said odd true taken h o = or_right (is_stopped after.doing) odd (h refl)
   unless before heard after said odd false taken h o = o refl
 
   asking : (heard : Heard)

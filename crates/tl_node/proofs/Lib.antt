@@ -1,6 +1,6 @@
-pub mod Alike
-pub mod AlikeNodes
-pub mod AlikeSays
+mod Alike
+mod AlikeNodes
+mod AlikeSays
 pub mod AlikeTold
 mod Answered
 mod Arrives
@@ -29,7 +29,7 @@ mod OutsideReplies
 pub mod Owes
 mod Owing
 pub mod OwnSuits
-pub mod Presents
+mod Presents
 mod ReadAfter
 mod Readied
 mod Readings

@@ -1,6 +1,7 @@
 -- The present statement of a node: it is there, names tables of the catalog, and reads what is left to read.
 use Rattle.std.proofs.Common.{◌≡◌, ℕ, zero, suc, ◌+◌, ◌<◌, cond, true, false, List, [], ◌∷◌, Option, Some, drop, length, map, refl, sym, ap, subst, ◌∙◌, arith}
 use Rattle.std.specs.Prelude.{slice_get}
+use Rattle.std.proofs.lemmas.Option.{same_Some}
 use Rattle.tl_schema.specs.declared.access.Access.{Access}
 use Rattle.tl_schema.specs.declared.catalog.Catalog.{Catalog}
 use Rattle.tl_schema.specs.declared.catalog.Table.{Table}
@@ -10,7 +11,6 @@ use Rattle.tl_algebra.specs.declared.query.Query.{Query}
 use Rattle.tl_isolation.specs.declared.bound.Bound.{Bound}
 use Rattle.tl_isolation.specs.declared.bound.Bound.TheVariants as bound
 use Rattle.tl_isolation.specs.Tables.{table_of}
-use Rattle.tl_isolation.proofs.Lookups.{some_same}
 use Rattle.tl_plan.specs.Access.{accesses_of}
 use Rattle.tl_plan.specs.Plan.{NamesTables, accesses_in, numbers_of}
 use Rattle.tl_descriptor.specs.Tids.{TidSet}
@@ -40,7 +40,7 @@ is_there core P h = within (length core.answers.items) core.statements h.stateme
 -- what is known of it holds of the one in hand
 pub holds_of : (core : Core) (P : Bound → Type 0) → HasPresent core P → (statement : Bound) → slice_get core.statements (length core.answers.items) ≡ Some statement → P statement
 holds_of core P h statement e =
-    subst P (some_same h.statement statement (sym (first_left (length core.answers.items) core.statements h.statement h.later h.todo_is) ∙ e)) h.holds
+    subst P (same_Some h.statement statement (sym (first_left (length core.answers.items) core.statements h.statement h.later h.todo_is) ∙ e)) h.holds
 
 -- what follows from what is known of it
 pub so_present : (core : Core) (P Q : Bound → Type 0) → ((statement : Bound) → P statement → Q statement) → HasPresent core P → HasPresent core Q
@@ -59,7 +59,7 @@ learnt_present old mid floor P e h = record {
 
 pub named_at : (catalog : Catalog) (statements : List Bound) (at : ℕ) (statement : Bound) → AreNamed catalog statements → slice_get statements at ≡ Some statement → NamesTables catalog statement
 named_at catalog [] at statement h e = absurd cc
-named_at catalog (first ∷ later) zero statement h e = subst (NamesTables catalog) (some_same first statement e) h.0
+named_at catalog (first ∷ later) zero statement h e = subst (NamesTables catalog) (same_Some first statement e) h.0
 named_at catalog (first ∷ later) (suc at) statement h e = named_at catalog later at statement h.1 e
 
 -- ---- its reads
@@ -143,4 +143,4 @@ idle_said core statement h e nested =
     record { statement = h.statement; later = h.later; todo_is = h.todo_is; holds = subst IsSaid (sym same) (said_else statement (subst IsNoEnd same h.holds) nested) }
   where
     same : h.statement ≡ statement
-    same = some_same h.statement statement (sym (first_left (length core.answers.items) core.statements h.statement h.later h.todo_is) ∙ e)
+    same = same_Some h.statement statement (sym (first_left (length core.answers.items) core.statements h.statement h.later h.todo_is) ∙ e)

@@ -1,6 +1,7 @@
 -- A node that reads takes a reply.
 use Rattle.std.proofs.Common.{◌≡◌, ℕ, ◌+◌, Bool, true, false, ◌⊎◌, inl, inr, List, [], ◌∷◌, ◌++◌, length, map, drop, Option, Some, None, Result, Ok, Err, refl, sym, ap, ◌∙◌, subst, append_assoc}
 use Rattle.std.specs.Prelude.{◌||◌}
+use Rattle.tl_lemmas.proofs.Tests.{never_both}
 use Rattle.tl_base.specs.declared.memory.NoMemory.{NoMemory}
 use Rattle.tl_base.specs.declared.place.Settings.{Settings}
 use Rattle.tl_values.specs.declared.value.Value.{Value}
@@ -63,6 +64,7 @@ use Rattle.tl_node.specs.declared.work.Work.TheVariants as work
 use Rattle.tl_node.proofs.Arrives.{Arrives, arrives_at}
 use Rattle.tl_node.proofs.BeginAfter.{asked_same, running_present}
 use Rattle.tl_node.proofs.NotStrange.{not_strange_at}
+use Rattle.tl_journal.proofs.CutShort.{unsaid_read}
 
 -- ---- the reads
 
@@ -134,19 +136,8 @@ reading_is other h = absurd h
 abbrev pub read_run : TheTxn → Stage → TheReading → Running
 read_run txn said reading = record { txn = txn; stage = said; course = way.Reads reading }
 
-pub unsaid_read : (n : Node) (statement : Bound) (t : Txn) (o : Option Reads) (told : Answer) → unsaid (says_read n statement t o told) ≡ []
-unsaid_read n statement t None told = refl
-unsaid_read n statement t (Some after) told = by after.left
-  where
-    by : (left : List law.Read) → unsaid (says_read n statement t (Some (record after { left = left })) told) ≡ []
-    by [] = refl
-    by (x ∷ left) = refl
-
 some_same : (a b : Reads) → ◌≡◌ {A = Option Reads} (Some a) (Some b) → a ≡ b
 some_same a b e = cc
-
-clash : (a : Bool) → a ≡ true → a ≡ false → ⊥
-clash a f g = cc
 
 module _ (old : Core) (statement : Bound) (later : List Bound) (said : Stage) (reading : TheReading) (live : Open) (r : Read) where
   abbrev pub T : Txn
@@ -254,7 +245,7 @@ module _ (old : Core) (statement : Bound) (later : List Bound) (said : Stage) (r
   entries_at told m on all stop ends steps number None is known strange commits =
       let h = stop old.layout old.catalog At statement T Law live r (left_behind statement reading) (code.hears_reading old.catalog r told) answer.Begun awaits is in
       absurd
-      (clash (is_strange_to old.layout old.catalog At (code.hears_reading old.catalog r told))
+      (never_both (is_strange_to old.layout old.catalog At (code.hears_reading old.catalog r told))
       (ap (λ (n : Node). is_stopped n.doing || is_odd_for At.doing (code.hears_reading old.catalog r told)) h.takes_is) strange)
   entries_at told m on all stop ends steps number (Some (step.Going meant)) is known strange commits =
       let g = on old.layout old.catalog At statement T Law live r (left_behind statement reading) (code.hears_reading old.catalog r told) answer.Begun meant awaits is in

@@ -58,8 +58,9 @@ use Rattle.tl_node.proofs.Found.{first_left}
 use Rattle.tl_node.proofs.Idling.{said_alike}
 use Rattle.tl_node.proofs.LeadsReads.{asks_at}
 use Rattle.tl_node.proofs.BeginAfter.{running_present}
-use Rattle.tl_node.proofs.ReadAfter.{Taken_of, read_done, read_run, unsaid_read}
+use Rattle.tl_node.proofs.ReadAfter.{Taken_of, read_done, read_run}
 use Rattle.tl_node.proofs.Readings.{one_dropped, reads_at, reads_kept}
+use Rattle.tl_journal.proofs.CutShort.{unsaid_read}
 
 -- the read behind the one in hand, which found these rows
 abbrev pub next_in : TheReading → List (List Value) → TheReading

@@ -2,6 +2,7 @@
 use Rattle.std.proofs.Common.{◌≡◌, ℕ, ◌<◌, List, [], map, ap, sym, subst, ◌∙◌, append-nil, ◌∷◌}
 use Rattle.std.specs.FinMap as finmap
 use Rattle.std.specs.List.{AllByRecursion}
+use Rattle.tl_lemmas.proofs.Lists.{some_at}
 use Rattle.tl_base.specs.declared.place.Settings.{Settings}
 use Rattle.tl_cells.specs.Serves.{Call}
 use Rattle.tl_versions.specs.Cell as cells
@@ -14,7 +15,6 @@ use Rattle.tl_journal.specs.Journal.{AreServed, IsCall, opening_calls, opening_c
 use Rattle.tl_journal.specs.declared.event.Event.{Event}
 use Rattle.tl_places.specs.Opening.{AreNew, HaveStored, Stored, commits_cell, row_cell, row_writes}
 use Rattle.tl_places.specs.Places.{AreAt, PlacesState, ShardHasServed}
-use Rattle.tl_places.proofs.Lists.{is_there}
 use Rattle.tl_places.proofs.Written.{cells_of_writes}
 
 pub cells_of_rows : (script : Script) (settings : Settings) (rows : Tables) → row_writes rows ≡ opening_writes script.catalog script.rows
@@ -37,6 +37,6 @@ pub are_served : (script : Script) (settings : Settings) (events : List Event) (
     → AllByRecursion (λ (e : Event). IsCall e.place e.request e.reply) events → AreServed script settings events
 are_served script settings events p h calls = record {
   calls = calls;
-  shards = λ s l. let there = is_there p.shards s (subst (λ (n : ℕ). s < n) (sym h.shard_count) l) in (h.each_shard s there.0 there.1).served;
-  managers = λ m l. let there = is_there p.managers m (subst (λ (n : ℕ). m < n) (sym h.manager_count) l) in (h.each_manager m there.0 there.1).served;
+  shards = λ s l. let there = some_at p.shards s (subst (λ (n : ℕ). s < n) (sym h.shard_count) l) in (h.each_shard s there.0 there.1).served;
+  managers = λ m l. let there = some_at p.managers m (subst (λ (n : ℕ). m < n) (sym h.manager_count) l) in (h.each_manager m there.0 there.1).served;
 }

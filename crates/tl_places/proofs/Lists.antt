@@ -2,6 +2,8 @@
 use Rattle.std.proofs.Common.{◌≡◌, ◌⊎◌, inl, inr, ℕ, zero, suc, ◌+◌, ◌<◌, ◌==◌, true, false, List, [], ◌∷◌, ◌++◌, Some, length, refl, ap, arith}
 use Rattle.std.specs.Prelude.{slice_get, slice_set}
 use Rattle.std.proofs.lemmas.Bool.{eqb-true}
+use Rattle.std.proofs.lemmas.List.{length_push}
+use Rattle.tl_lemmas.proofs.Lists.{some_at}
 
 -- the one that replaced it, or one at another place
 pub set_found : {A : Type 0} (xs : List A) (i j : ℕ) (y x : A) → slice_get (slice_set xs i y) j ≡ Some x
@@ -28,16 +30,6 @@ pub set_same : {A : Type 0} (xs : List A) (i : ℕ) (x y : A) → slice_get xs i
 set_same [] i x y h e = refl
 set_same (z ∷ zs) zero x y h e = ap (λ w. w ∷ zs) (let f : z ≡ x = cc in cc)
 set_same (z ∷ zs) (suc i) x y h e = ap (λ ws. z ∷ ws) (set_same zs i x y h e)
-
--- there is one at each place
-pub is_there : {A : Type 0} (xs : List A) (i : ℕ) → i < length xs → (x : A) × (slice_get xs i ≡ Some x)
-is_there [] i l = absurd (omega arith)
-is_there (z ∷ zs) zero l = (z, refl)
-is_there (z ∷ zs) (suc i) l = is_there zs i (omega arith)
-
-pub length-append_one : {A : Type 0} (xs : List A) (x : A) → length (xs ++ x ∷ []) ≡ length xs + 1
-length-append_one [] x = refl
-length-append_one (y ∷ ys) x = let e : length (ys ++ x ∷ []) ≡ length ys + 1 = length-append_one ys x in omega arith
 
 -- numbers that differ
 pub apart : (m n : ℕ) → (m ≡ n → ⊥) → (m == n) ≡ false

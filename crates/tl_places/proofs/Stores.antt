@@ -2,7 +2,7 @@
 use Rattle.std.proofs.Common.{◌≡◌, ◌⊎◌, inl, inr, ℕ, ◌+◌, ◌<◌, ◌==◌, Bool, true, false, cond, List, [], ◌∷◌, ◌++◌, Some, get_or, length, filter, refl, sym, ap, subst, ◌∙◌, append-nil, arith}
 use Rattle.std.specs.Prelude.{slice_get, slice_set}
 use Rattle.std.proofs.lemmas.Bool.{eq-eqb}
-use Rattle.std.proofs.lemmas.List.{length-set}
+use Rattle.std.proofs.lemmas.List.{length-set, length_push}
 use Rattle.std.proofs.lemmas.Option.{slice_get_read}
 use Rattle.std.proofs.lemmas.List.Elements.{filter-append}
 use Rattle.tl_base.specs.declared.store.StoreReply.{StoreReply}
@@ -15,7 +15,7 @@ use Rattle.tl_cells.proofs.Log.{after-reply_of, reply_of-log, ServesAll-push}
 use Rattle.tl_journal.specs.Journal.{stores_from}
 use Rattle.tl_places.specs.Opening.{HaveStored, Stored, stores_at}
 use Rattle.tl_places.specs.Places.{ShardHasServed}
-use Rattle.tl_places.proofs.Lists.{apart, length-append_one, push_found, set_found}
+use Rattle.tl_places.proofs.Lists.{apart, push_found, set_found}
 
 stores_from-push : (stamp : ℕ) (stored : List Stored) (c : Stored)
     → stores_from stamp (stored ++ c ∷ [])
@@ -31,7 +31,7 @@ stores_from-push stamp (d ∷ stored) c =
 stores_counted : (stamp : ℕ) (stored : List Stored) → length (stores (stores_from stamp stored)) ≡ length stored
 stores_counted stamp [] = refl
 stores_counted stamp (c ∷ stored) =
-    length-append_one (stores (stores_from (stamp + 1) stored)) (c.0, record { stamp = stamp + 1; value = c.1 })
+    length_push (stores (stores_from (stamp + 1) stored)) (c.0, record { stamp = stamp + 1; value = c.1 })
     ∙ (let e : length (stores (stores_from (stamp + 1) stored)) ≡ length stored = stores_counted (stamp + 1) stored in omega arith)
 
 -- a store that is answered by a stamp is answered by the next
@@ -115,7 +115,7 @@ none_stored = record { shard_count = refl; each = λ s state e. absurd cc }
 
 pub one_more : (count : ℕ) (shards : List ShardState) (state : ShardState) → Matches 0 [] state → HaveStored count [] shards → HaveStored (count + 1) [] (shards ++ state ∷ [])
 one_more count shards new m h = record {
-  shard_count = length-append_one shards new ∙ ap (λ (n : ℕ). n + 1) h.shard_count;
+  shard_count = length_push shards new ∙ ap (λ (n : ℕ). n + 1) h.shard_count;
   each = λ s state e. by s state (push_found shards s new state e);
 }
   where

@@ -2,6 +2,7 @@
 use Rattle.std.proofs.Common.{◌≡◌, ℕ, ◌==◌, Bool, true, false, not, ◌&&◌, ◌||◌, if◌then◌else◌, List, [], ◌∷◌, Option, Some, None, filter_map, map, refl, sym, ap, subst, ◌∙◌}
 use Rattle.std.specs.List.{AllByRecursion, list_all, list_any}
 use Rattle.std.proofs.lemmas.Bool.{and_parts}
+use Rattle.std.proofs.lemmas.Option.{same_Some}
 use Rattle.tl_values.specs.declared.value.Comparison.{Comparison}
 use Rattle.tl_values.specs.declared.value.Kind.{Kind}
 use Rattle.tl_values.specs.declared.value.Value.{Value}
@@ -16,7 +17,6 @@ use Rattle.tl_algebra.specs.declared.condition.Side.{Side}
 use Rattle.tl_algebra.specs.declared.condition.Side.TheVariants as side
 use Rattle.tl_isolation.specs.Kinds.{are_alike, compares_alike, condition_fits, condition_layer, every_kind, is_of_kind, is_value, side_gives}
 use Rattle.tl_isolation.proofs.Computed.{alike_of_layer, value_is}
-use Rattle.tl_isolation.proofs.Lookups.{some_same}
 use Rattle.tl_plan.specs.Access.{ColumnTest, bounds, parts_of, test_by, test_of, test_where, tests_of, turned_round}
 use Rattle.tl_plan.specs.Law.{ComparesValues}
 use Rattle.tl_plan.proofs.Tests.{filter_map_all}
@@ -43,7 +43,7 @@ left_value columns v right e =
 where_value : (here : Bool) (c : Comparison) (v : Value) (t : ColumnTest) → test_where here c v ≡ Some t → v ≡ t.value
 where_value here c v t e =
     elim (here && bounds c && not (is_null v)) as (λ b. (if b then Some (record { by = c; value = v }) else None) ≡ Some t → v ≡ t.value) [
-      | true ↦ λ i. ap (λ (t : ColumnTest). t.value) (some_same (record { by = c; value = v }) t i)
+      | true ↦ λ i. ap (λ (t : ColumnTest). t.value) (same_Some (record { by = c; value = v }) t i)
       | false ↦ λ i. absurd cc
     ] e
 

@@ -1,8 +1,8 @@
 pub mod Alike
-pub mod Accesses
-pub mod BoundQueries
-pub mod Bounds
-pub mod Parts
-pub mod Plans
+mod Accesses
+mod BoundQueries
+mod Bounds
+mod Parts
+mod Plans
 pub mod Suffices
-pub mod Tests
+mod Tests

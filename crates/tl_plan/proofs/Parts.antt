@@ -2,6 +2,7 @@
 use Rattle.std.proofs.Common.{◌≡◌, ℕ, Bool, true, false, if◌then◌else◌, ◌+◌, ◌<◌, List, [], ◌∷◌, Option, Some, None, drop, filter_map, get_or, length, refl, sym, ap, ◌∙◌}
 use Rattle.std.specs.List.{cons_option, fold}
 use Rattle.std.proofs.lemmas.List.{drop_more}
+use Rattle.tl_lemmas.proofs.Lists.{drop_read}
 use Rattle.tl_values.specs.declared.value.Value.{Value}
 use Rattle.tl_schema.specs.declared.access.Access.TheVariants as access
 use Rattle.tl_algebra.specs.declared.condition.Condition.{Condition}
@@ -19,9 +20,6 @@ one_equal (Some t) ts rest e = chosen (is_equality t.by) t.value rest (equal_to 
 pub first_equal_is : (place : ℕ) (parts : List Condition) → first_equal place parts ≡ equal_to (filter_map (test_of place) parts)
 first_equal_is place [] = refl
 first_equal_is place (part ∷ parts) = one_equal (test_of place part) (filter_map (test_of place) parts) (first_equal place parts) (first_equal_is place parts)
-
-drop_read : {X : Type 0} (xs : List X) (i : ℕ) (x : X) → i < length xs → x ≡ get_or xs i x → drop i xs ≡ x ∷ drop (i + 1) xs
-drop_read xs i x h e = drop_more xs i x h ∙ ap (λ (y : _). y ∷ drop (i + 1) xs) (sym e)
 
 -- the first part that tests the column for equality stands here
 pub equal_at : (place : ℕ) (parts : List Condition) (i : ℕ) (part : Condition) (v : Value) → i < length parts → part ≡ get_or parts i part → Some v ≡ equality (test_of place part)

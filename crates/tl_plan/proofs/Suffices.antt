@@ -6,6 +6,8 @@ use Rattle.std.specs.Cmp.{tied_itself}
 use Rattle.std.specs.Cmp.Lexicographic.{nat_list_cmp_total, slice_cmp}
 use Rattle.std.specs.List.{AllByRecursion}
 use Rattle.std.specs.Ordering.{is_eq, nat_cmp}
+use Rattle.std.proofs.lemmas.Bool.{false_from_ne_true}
+use Rattle.tl_lemmas.proofs.Tests.{and_second}
 use Rattle.tl_values.specs.declared.value.Comparison.{Comparison}
 use Rattle.tl_values.specs.declared.value.Comparison.TheVariants as by
 use Rattle.tl_values.specs.declared.value.Value.{Value}
@@ -35,6 +37,7 @@ use Rattle.tl_plan.specs.Law.{AreGiven, AreRead, ChangePartSuffices, ComparesVal
 use Rattle.tl_plan.specs.Plan.{Finishes, tables_of}
 use Rattle.tl_plan.proofs.Bounds.{within}
 use Rattle.tl_plan.proofs.Tests.{Meets, tests_met}
+use Rattle.tl_isolation.proofs.Computed.{value_placed}
 
 -- ---- a row that WHERE lets through lies within its access
 
@@ -92,11 +95,6 @@ module _ (where_ : Option Condition) (front row back : List Value) (through : le
       let others : map (value_at row) columns ≡ parts.1 = each_equal columns parts.1 h.1 parts.3 in
       ap (λ x. x ∷ map (value_at row) columns) one ∙ ap (λ xs. parts.0 ∷ xs) others ∙ sym parts.4
 
-value_fits : (row : List Value) (column : ℕ) → AreValues row → IsValue (value_at row column)
-value_fits [] column f = tt
-value_fits (x ∷ row) zero f = f.0
-value_fits (x ∷ row) (suc column) f = value_fits row column f.1
-
 within_range : (v : Value) (xs row : List Value) (tests : List ColumnTest) → IsValue v → AllByRecursion (λ (t : ColumnTest). IsValue t.value) tests → AllByRecursion (Meets v) tests →
     covers (range_by tests) (key_bytes (v ∷ xs)) row ≡ true
 within_range v xs row [] f g m = refl
@@ -107,7 +105,7 @@ module _ (where_ : Option Condition) (front row back : List Value) (through : le
   by_range [] h = refl
   by_range (column ∷ columns) h =
       within_range (value_at row column) (map (value_at row) columns) row (tests_of (length front + column) where_)
-      (value_fits row column fits) (compares (length front + column)) (column_meets where_ front row back through column h.0)
+      (value_placed row column fits) (compares (length front + column)) (column_meets where_ front row back through column h.0)
 
   by_access : (columns : List ℕ) (o : Option (List Value)) → AllByRecursion (λ column. column < length row) columns →
       each (λ column. equal_to (tests_of (length front + column) where_)) columns ≡ o →
@@ -136,14 +134,6 @@ filter_none : {A : Type 0} (p : A → Bool) → ((x : A) → p x ≡ false) → 
 filter_none p h [] = refl
 filter_none p h (x ∷ xs) = ap (λ b. cond b (x ∷ filter p xs) (filter p xs)) (h x) ∙ filter_none p h xs
 
-never : (b : Bool) → (b ≡ true → ⊥) → b ≡ false
-never true h = absurd (h refl)
-never false h = refl
-
-and_second : (a b : Bool) → (a && b) ≡ true → b ≡ true
-and_second true b e = e
-and_second false b e = absurd cc
-
 -- the rows of a product whose first part is this row
 abbrev behind : List Value → List (List Value) → List (List Value)
 behind row backs = map (λ back. row ++ back) backs
@@ -162,7 +152,7 @@ module _ (p : List Value → Bool) (where_ : Option Condition) (lets : (row : Li
       filter (from front) (behind row backs) ≡ []
   none_behind table front row backs keyed fits out =
       regrouped front row backs
-      ∙ ap (behind row) (filter_none (from (front ++ row)) (λ back. never (from (front ++ row) back) (λ e. out (passing table where_ front row back keyed compares fits (lets (front ++ row ++ back) e)))) backs)
+      ∙ ap (behind row) (filter_none (from (front ++ row)) (λ back. false_from_ne_true (from (front ++ row) back) (λ e. out (passing table where_ front row back keyed compares fits (lets (front ++ row ++ back) e)))) backs)
 
   -- the rows of the product of the tables from here on, where those of the later tables are the same behind each row of this one
   rows_same : (table : Table) (front : List Value) (keeps : List Value → Bool) (reads wholes rows : List (List Value)) → HasKey table → AllByRecursion (FitsTable table) rows →

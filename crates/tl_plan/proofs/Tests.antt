@@ -3,6 +3,7 @@ use Rattle.std.proofs.Common.{◌≡◌, ℕ, ◌==◌, Bool, true, false, not, 
 use Rattle.std.proofs.lemmas.Bool.Decides.{nat_tests}
 use Rattle.std.specs.List.{AllByRecursion, cons_option}
 use Rattle.std.specs.Ordering.{ordering_reverse}
+use Rattle.tl_lemmas.proofs.Tests.{and_first}
 use Rattle.tl_values.specs.declared.value.Comparison.{Comparison}
 use Rattle.tl_values.specs.declared.value.Comparison.TheVariants as by
 use Rattle.tl_values.specs.declared.value.Truth.{Truth}
@@ -82,10 +83,6 @@ meets_turned v c w e =
 where_is : (b : Bool) (c : Comparison) (w : Value) (t : ColumnTest) → (if b then Some (record { by = c; value = w }) else None) ≡ Some t → (b ≡ true) × (t ≡ record { by = c; value = w })
 where_is false c w t e = absurd cc
 where_is true c w t e = (refl, cc)
-
-and_first : (a b : Bool) → (a && b) ≡ true → a ≡ true
-and_first true b e = refl
-and_first false b e = absurd cc
 
 at_place : (at place : ℕ) → (at == place) ≡ true → at ≡ place
 at_place at place e = grind (arith, nat_tests)

@@ -6,7 +6,7 @@ use Rattle.std.specs.FinMap.{nat_cmp-IsAntisymmetric, slice_cmp-IsAntisymmetric}
 use Rattle.std.specs.Ordering.{is_eq}
 use Rattle.std.specs.declared.cmp.Ordering.{Ordering}
 use Rattle.std.specs.declared.cmp.Ordering.TheVariants.{Less, Equal, Greater}
-use Rattle.std.proofs.lemmas.Bool.{both_ways, false≢true, ne_eqb}
+use Rattle.std.proofs.lemmas.Bool.{and_parts, both_ways, false≢true, ne_eqb}
 use Rattle.tl_logrec.specs.declared.entry.Flag.TheVariants as flag
 use Rattle.tl_versions.specs.Versions.{stranger}
 use Rattle.tl_write.specs.declared.write.Write.{Write}
@@ -30,32 +30,19 @@ use Rattle.tl_protocol.proofs.Steps.{active_at, core_log, core_seat, core_turn, 
 use Rattle.tl_protocol.proofs.Steps.{with_phase as ghost_phase}
 use Rattle.tl_protocol.proofs.Owner.{Owner, owner, stranger_front, txn_fits, unknown_front}
 use Rattle.tl_protocol.proofs.Showing.{clashed}
+use Rattle.tl_write.proofs.Keys.{key_eq}
 
 -- ---- tests over the own writes
-
-one_key : (k l : Key) → same_key k l ≡ true → k ≡ l
-one_key k l h = slice_cmp-IsAntisymmetric nat_cmp-IsAntisymmetric k l (equal (key_cmp k l) h)
-  where
-    equal : (o : Ordering) → is_eq o ≡ true → o ≡ Equal
-    equal Less h = absurd cc
-    equal Equal h = refl
-    equal Greater h = absurd cc
-
-both_true : (x y : Bool) → x && y ≡ true → (x ≡ true) × (y ≡ true)
-both_true true true h = (refl, refl)
-both_true true false h = absurd cc
-both_true false true h = absurd cc
-both_true false false h = absurd cc
 
 -- what holds of the key of each write, holds of each record that is written
 all_at : (f : Key → Bool) (k : Key) (ws : List Write) → list_all (λ (o : Write). f o.key) ws ≡ true → is_written k ws ≡ true → f k ≡ true
 all_at f k [] h i = absurd (false≢true i)
 all_at f k (w ∷ ws) h i =
-    let q = both_true (f w.key) (list_all (λ (o : Write). f o.key) ws) h in
+    let q = and_parts (f w.key) (list_all (λ (o : Write). f o.key) ws) h in
     by (same_key w.key k) refl i q.0 (all_at f k ws q.1)
   where
     by : (b : Bool) → same_key w.key k ≡ b → b || is_written k ws ≡ true → f w.key ≡ true → (is_written k ws ≡ true → f k ≡ true) → f k ≡ true
-    by true e i h r = subst (λ (x : Key). f x ≡ true) (one_key w.key k e) h
+    by true e i h r = subst (λ (x : Key). f x ≡ true) (key_eq w.key k e) h
     by false e i h r = r i
 
 not_true : (b : Bool) → not b ≡ true → b ≡ true → ⊥

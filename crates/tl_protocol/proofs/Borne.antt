@@ -70,7 +70,7 @@ borne_front cs k u cut vs (Some x) c never h =
 front_borne : (t : ℕ) (row : Option (List Value)) (vs : List Version) → is_borne t (record { tid = t; row = row } ∷ vs) ≡ true
 front_borne t row vs = ap (λ b. b || is_borne t vs) (eq-eqb t t refl)
 
-begun_once : (x : Number) (i j : ℕ) → x ≡ Begun i → x ≡ Begun j → i ≡ j
+pub begun_once : (x : Number) (i j : ℕ) → x ≡ Begun i → x ≡ Begun j → i ≡ j
 begun_once x i j e f = cc
 
 module _ (b : Base) (a : Ledger) (g : Ghost) (c : Core b a g) (i : ℕ) (t : Txn) (stored : Key → Bool) (held : Option Transaction) (p : TxnPhase) (tried : Bool) (rival : Option ℕ)

@@ -5,6 +5,8 @@ use Rattle.std.specs.Ordering.{ordering_reverse, is_eq}
 use Rattle.std.specs.Cmp.Lexicographic.{nat_list_cmp_total}
 use Rattle.std.specs.FinMap.{nat_cmp-IsAntisymmetric, slice_cmp-IsAntisymmetric}
 use Rattle.std.proofs.lemmas.Bool.{false≢true}
+use Rattle.std.proofs.lemmas.Option.{same_Some}
+use Rattle.tl_lemmas.proofs.Orders.{equal_is, equal_itself}
 use Rattle.tl_values.specs.declared.value.Value.{Value}
 use Rattle.tl_descriptor.specs.Tids.{TidSet, IsWithin}
 use Rattle.tl_manager.specs.declared.active.Active.{Active}
@@ -18,26 +20,10 @@ use Rattle.tl_protocol.proofs.Finished.{Finished}
 use Rattle.tl_protocol.proofs.History.{IsKept, history, strip_front}
 use Rattle.tl_protocol.proofs.Inv.{ActiveOk, Base, CellOk, Core, Front, Ghost, LoadOk, ManagersOk, NodeOk, Shared, shared}
 use Rattle.tl_protocol.proofs.Later.{Grows, Later}
-use Rattle.tl_protocol.proofs.Frames.{active_after_phase, nodes_after_phase, some_same}
+use Rattle.tl_protocol.proofs.Frames.{active_after_phase, nodes_after_phase}
+use Rattle.tl_write.proofs.Keys.{key_eq, key_itself}
 
 -- ---- functions of keys
-
-equal_is : (o : Ordering) → is_eq o ≡ true → o ≡ Equal
-equal_is Less e = absurd (false≢true e)
-equal_is Equal e = refl
-equal_is Greater e = absurd (false≢true e)
-
--- keys that test the same are the same
-pub key_eq : (k l : Key) → same_key k l ≡ true → k ≡ l
-key_eq k l e = slice_cmp-IsAntisymmetric nat_cmp-IsAntisymmetric k l (equal_is (key_cmp k l) e)
-
-eq_itself : (o : Ordering) → o ≡ ordering_reverse o → is_eq o ≡ true
-eq_itself Less e = absurd cc
-eq_itself Equal e = refl
-eq_itself Greater e = absurd cc
-
-pub key_itself : (k : Key) → same_key k k ≡ true
-key_itself k = eq_itself (key_cmp k k) (nat_list_cmp_total.antisymm k k)
 
 -- a function changed at one key
 pub put_at_one : {A : Type 0} (P : Key → A → Type 0) (k : Key) (x : A) (f : Key → A)
@@ -183,7 +169,7 @@ stripped b a g c i t first k vs it same =
     let front : Front = record { node = i; tid = t.tid; row = it.0; first = first } in
     let ok : CellOk a.commits k (g.cuts k) (b.cells k).versions (Some front) = subst (λ f. CellOk a.commits k (g.cuts k) (b.cells k).versions f) it.2 (c.cells k) in (
       subst (λ x. IsKept (history k a.commits) (g.cuts k) x) (sym (ap (strip t.tid) (sym same ∙ ok.1) ∙ strip_front t.tid it.0 ok.0)) ok.2,
-      λ f y. sym (ap (λ (x : Front). x.node) (some_same front f (sym it.2 ∙ y))),
+      λ f y. sym (ap (λ (x : Front). x.node) (same_Some front f (sym it.2 ∙ y))),
     )
 
 -- the version of a transaction that is being undone is removed from a cell, by its node or by a recoverer

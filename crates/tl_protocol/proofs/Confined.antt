@@ -3,6 +3,7 @@ use Rattle.std.proofs.Common.{◌≡◌, ℕ, Bool, true, false, ◌||◌, List,
 use Rattle.std.specs.Prelude.{◌==◌, if◌then◌else◌}
 use Rattle.std.specs.List.{list_any}
 use Rattle.std.proofs.lemmas.Bool.{eq-eqb, false≢true}
+use Rattle.tl_lemmas.proofs.Tests.{or_first, or_second}
 use Rattle.tl_logrec.specs.declared.entry.Flag.{Flag}
 use Rattle.tl_logrec.specs.declared.entry.Flag.TheVariants as flag
 use Rattle.tl_schema.specs.declared.catalog.Setup.{Setup}
@@ -17,8 +18,9 @@ use Rattle.tl_protocol.specs.Move as move
 use Rattle.tl_protocol.specs.Move.{Move, is_named}
 use Rattle.tl_protocol.specs.Next.{by_flag, by_log, load_finish, load_lost, loaded, next, owed, without}
 use Rattle.tl_protocol.specs.Run.{Layout, opening_versions, opening_world}
-use Rattle.tl_protocol.proofs.Cells.{key_itself, put_at_one}
+use Rattle.tl_protocol.proofs.Cells.{put_at_one}
 use Rattle.tl_protocol.proofs.Frames.{put_one}
+use Rattle.tl_write.proofs.Keys.{key_itself}
 
 abbrev pub is_listed : ℕ → List ℕ → Bool
 is_listed d nodes = list_any (λ n. n == d) nodes
@@ -51,14 +53,6 @@ pub record Confined (cells : Key → Cell) (active : ℕ → Option Active) (rec
 
 abbrev pub ConfinedIn : World → Type 0
 ConfinedIn w = Confined w.cells w.active w.recoveries w.notices
-
-pub or_first : (a b : Bool) → (a || b) ≡ false → a ≡ false
-or_first true b e = e
-or_first false b e = refl
-
-pub or_second : (a b : Bool) → (a || b) ≡ false → b ≡ false
-or_second true b e = absurd cc
-or_second false b e = e
 
 not_itself : (n : ℕ) (nodes : List ℕ) → is_listed n (n ∷ nodes) ≡ false → ⊥
 not_itself n nodes e = false≢true (sym (or_first (n == n) (is_listed n nodes) e) ∙ eq-eqb n n refl)

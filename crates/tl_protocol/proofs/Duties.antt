@@ -2,6 +2,7 @@
 use Rattle.std.proofs.Common.{◌≡◌, ℕ, Bool, true, false, ◌⊎◌, Option, Some, None, refl, sym, ap, ◌∙◌, subst, inl, inr, ⊎_elim}
 use Rattle.std.specs.Prelude.{◌&&◌, if◌then◌else◌}
 use Rattle.std.proofs.lemmas.Bool.{false≢true}
+use Rattle.std.proofs.lemmas.Option.{same_Some}
 use Rattle.tl_manager.specs.declared.active.Active.{Active}
 use Rattle.tl_protocol.specs.Store.{Key, put, put_at, same_key}
 use Rattle.tl_protocol.specs.World.{Phase, Idle, Noted, Drawn, Live, Trying, Undoing, Closing, Ending, Duties, Recovery, World, Recovers}
@@ -10,7 +11,7 @@ use Rattle.tl_protocol.specs.Stands.{Mender, Notice, Duty}
 use Rattle.tl_protocol.proofs.Ledger.{Ledger, Seat}
 use Rattle.tl_protocol.proofs.Inv.{ActiveOk, Base, Ghost, Inv, Link, MenderOk, NodeOk, Nodes, Owes, RecoveryOk, Shared, active_txn, base, is_running, mends_it, nodes_of, shared, tid_of, vanished_of}
 use Rattle.tl_protocol.proofs.Later.{Grows}
-use Rattle.tl_protocol.proofs.Frames.{duty_of, link_recovery, put_one, some_same}
+use Rattle.tl_protocol.proofs.Frames.{duty_of, link_recovery, put_one}
 
 -- ---- functions changed at one place
 
@@ -29,7 +30,7 @@ key_cases P n i x f h r = by (same_key n i) refl
 -- ---- what a manager has of a node, and the node's transaction
 
 tid_is : (x y : Active) → Some x ≡ Some y → Some x.tid ≡ Some y.tid
-tid_is x y e = ap (λ (z : Active). Some z.tid) (some_same x y e)
+tid_is x y e = ap (λ (z : Active). Some z.tid) (same_Some x y e)
 
 pub active_tid : (i : ℕ) (p : Phase) (o : Option Active) (x : Active) → ActiveOk i p o → o ≡ Some x → tid_of p ≡ Some x.tid
 active_tid i Idle o x h e = cc
@@ -69,7 +70,7 @@ pub owes_take : (xs : ℕ → Phase) (duties : Duties) (d : ℕ) → duties.left
 owes_take xs duties d l o = record {
   node = o.node;
   among = λ e. put_cases (λ y. y ≡ true → duties.all e ≡ true) d e false duties.left (λ q h. absurd (false≢true h)) (λ q h. o.among e h);
-  in_hand = λ e q. subst (λ x. duties.all x ≡ true) (some_same d e q) (o.among d l);
+  in_hand = λ e q. subst (λ x. duties.all x ≡ true) (same_Some d e q) (o.among d l);
   rest = λ e h. put_cases (λ y. (y ≡ true) ⊎ ((tid_of (xs e) ≡ None) ⊎ (Some d ≡ Some e))) d e false duties.left (λ q. inr (inr (ap Some q)))
       (λ q. ⊎_elim (λ x. inl x) (λ x. ⊎_elim (λ y. inr (inl y)) (λ y. absurd (never e y)) x) (o.rest e h));
 }
@@ -105,7 +106,7 @@ owes_end xs duties d p n o = record {
   among = o.among;
   in_hand = λ e q. absurd (never e q);
   rest = λ e h. ⊎_elim (λ x. inl x) (λ x. inr (inl (put_cases (λ q. tid_of q ≡ None) d e p xs (λ q. n)
-      (λ q. ⊎_elim (λ y. y) (λ y. absurd (q (some_same d e y))) x)))) (o.rest e h);
+      (λ q. ⊎_elim (λ y. y) (λ y. absurd (q (same_Some d e y))) x)))) (o.rest e h);
 }
   where
     never : (e : ℕ) → ◌≡◌ {A = Option ℕ} None (Some e) → ⊥

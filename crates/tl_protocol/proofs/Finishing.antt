@@ -4,6 +4,7 @@ use Rattle.std.specs.Prelude.{◌==◌, ◌^◌, ◌||◌, is_some, if◌then◌
 use Rattle.std.specs.List.{list_any}
 use Rattle.std.proofs.lemmas.Bool.{both_ways, cases_lt, eqb-true}
 use Rattle.std.proofs.lemmas.Bool.Decides.{nat_tests}
+use Rattle.std.proofs.lemmas.Option.{same_Some}
 use Rattle.tl_values.specs.declared.value.Value.{Value}
 use Rattle.tl_schema.specs.declared.catalog.Catalog.{Catalog}
 use Rattle.tl_descriptor.specs.Tids.{TidSet, inserted}
@@ -32,7 +33,7 @@ use Rattle.tl_protocol.proofs.Sets.{firsts_more, known_insert, known_more, opens
 use Rattle.tl_protocol.proofs.History.{IsKept, clear_more, history, history_other, history_own, kept_more, view_more, written_is}
 use Rattle.tl_protocol.proofs.Inv.{ActiveOk, Base, Blank, CellOk, CommitLog, Core, Front, Ghost, Inv, Kept, Link, ManagersOk, NoLog, NodeOk, Nothing, NumbersOk, Removed, Said, SeenOk, Shared, TxnOk, active_txn, base, held_txn, is_taken, is_trying, nodes_of, nowhere, own_stored, shared, unless_lost, vanished_of}
 use Rattle.tl_protocol.proofs.Later.{Grows}
-use Rattle.tl_protocol.proofs.Frames.{active_after_phase, link_own, nodes_after, put_one, some_same}
+use Rattle.tl_protocol.proofs.Frames.{active_after_phase, link_own, nodes_after, put_one}
 use Rattle.tl_protocol.proofs.Steps.{node_at, numbered}
 use Rattle.tl_protocol.proofs.Showing.{committed, undone}
 use Rattle.tl_protocol.proofs.Cells.{Standing}
@@ -231,7 +232,7 @@ module _ (b : Base) (a : Ledger) (g : Ghost) (c : Core b a g) (i : ℕ) (t : Txn
       }
     where
       owner : (k : Key) (f : Front) → Standing g.fronts i t o.first k → g.fronts k ≡ Some f → i ≡ f.node
-      owner k f s e = ap (λ (x : Front). x.node) (some_same (record { node = i; tid = t.tid; row = s.0; first = o.first }) f (sym s.2 ∙ e))
+      owner k f s e = ap (λ (x : Front). x.node) (same_Some (record { node = i; tid = t.tid; row = s.0; first = o.first }) f (sym s.2 ∙ e))
 
 -- the state once the transaction t of node i is finished, and what is told of it
 pub record FinishedSo (b : Base) (a : Ledger) (g : Ghost) (i : ℕ) (t : Txn) (d : Decision) (cell : CommitsCell) : Type 0 where

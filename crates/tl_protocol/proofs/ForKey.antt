@@ -3,6 +3,7 @@ use Rattle.std.proofs.Common.{◌≡◌, ℕ, ◌≤◌, ◌^◌, Bool, true, fa
 use Rattle.std.specs.Prelude.{◌==◌, nat_lt, if◌then◌else◌}
 use Rattle.std.specs.List.{AllByRecursion}
 use Rattle.std.proofs.lemmas.Bool.{both_ways, eq-eqb, ltb-false, ltb-true}
+use Rattle.tl_lemmas.proofs.Lists.{all_both, reverse_cons}
 use Rattle.tl_values.specs.declared.value.Value.{Value}
 use Rattle.tl_schema.specs.declared.catalog.Catalog.{Catalog}
 use Rattle.tl_schema.specs.declared.catalog.Setup.{Setup}
@@ -16,15 +17,14 @@ use Rattle.tl_isolation.specs.Tables.{IsHome}
 use Rattle.tl_protocol.specs.Store.{Key, LogCell, last_of, same_key, written}
 use Rattle.tl_protocol.specs.World.{Number, Undrawn, Carried, Ready, Begun, Opening, World}
 use Rattle.tl_protocol.specs.Stands.{IsKeyOf, IsLogFor, IsVersionFor}
-use Rattle.tl_protocol.proofs.Cells.{key_eq}
 use Rattle.tl_protocol.proofs.Finished.{Finished, commit_on, commits_of, is_done}
 use Rattle.tl_protocol.proofs.History.{IsKept, history, lay}
 use Rattle.tl_protocol.proofs.Inv.{CellOk, Front, NumbersOk, base, is_begun, is_taken}
-use Rattle.tl_protocol.proofs.Laid.{reverse_cons}
 use Rattle.tl_protocol.proofs.Named.{IsNamed, held_home}
 use Rattle.tl_protocol.proofs.Owner.{Owner, owner}
 use Rattle.tl_protocol.proofs.Reached.{Reached}
 use Rattle.tl_protocol.proofs.Shown.{AreHomeWrites, AreKeyed}
+use Rattle.tl_write.proofs.Keys.{key_eq}
 
 -- ---- lists
 
@@ -41,10 +41,6 @@ all_turned P [] h = tt
 all_turned P (x ∷ xs) h =
     let h' : AllByRecursion P (reverse xs ++ x ∷ []) = subst (AllByRecursion P) (reverse_cons x xs) h in
     ((all_back P (reverse xs) (x ∷ []) h').0, all_turned P xs (all_front P (reverse xs) (x ∷ []) h'))
-
-both_all : {X : Type 0} (P Q : X → Type 0) (xs : List X) → AllByRecursion P xs → AllByRecursion Q xs → AllByRecursion (λ x. P x × Q x) xs
-both_all P Q [] h i = tt
-both_all P Q (x ∷ xs) h i = ((h.0, i.0), both_all P Q xs h.1 i.1)
 
 -- ---- what is written under a key
 
@@ -137,7 +133,7 @@ commits_small (d ∷ ds) h =
 module _ (setup : Setup) (w : World) (s : SiState) (es : List Entry) (r : Reached setup w s es) where
   all_commits : AllByRecursion (IsCommitFor setup.catalog) r.ledger.commits
   all_commits =
-      both_all (λ (c : Commit). c.tid ≤ 2 ^ 62) (λ (c : Commit). AreHomeWrites setup.catalog c.writes × AreKeyed setup.catalog c.writes) r.ledger.commits
+      all_both (λ (c : Commit). c.tid ≤ 2 ^ 62) (λ (c : Commit). AreHomeWrites setup.catalog c.writes × AreKeyed setup.catalog c.writes) r.ledger.commits
       (subst (AllByRecursion (λ (c : Commit). c.tid ≤ 2 ^ 62)) (sym r.inv.core.commits)
       (commits_small r.ghost.finished (λ t e. taken_small w.numbers w.counter t r.inv.core.numbers (r.inv.core.taken t e))))
       (all_turned (λ (c : Commit). AreHomeWrites setup.catalog c.writes × AreKeyed setup.catalog c.writes) r.ledger.commits

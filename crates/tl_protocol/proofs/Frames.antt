@@ -1,7 +1,8 @@
 -- What a move of one node leaves as it was.
 use Rattle.std.proofs.Common.{◌≡◌, ℕ, Bool, true, false, Option, Some, None, refl, sym, ap, ◌∙◌, subst, arith}
 use Rattle.std.specs.Prelude.{◌==◌, ◌&&◌, not, if◌then◌else◌}
-use Rattle.std.proofs.lemmas.Bool.{eqb-true, eqb-false, eq-eqb, ne_eqb}
+use Rattle.std.proofs.lemmas.Bool.{and_parts, eq-eqb, eqb-false, eqb-true, ne_eqb}
+use Rattle.std.proofs.lemmas.Option.{same_Some}
 use Rattle.tl_manager.specs.declared.active.Active.{Active}
 use Rattle.tl_protocol.specs.Store.{put}
 use Rattle.tl_protocol.specs.World.{Phase, Recovery}
@@ -37,9 +38,6 @@ put_other n i x f h = ap (λ b. if b then x else f i) (ne_eqb n i h)
 -- what is put back changes nothing
 pub put_again : {A : Type 0} (n i : ℕ) (f : ℕ → A) → put n (f n) f i ≡ f i
 put_again n i f = put_one (λ j y. y ≡ f j) n (f n) f refl (λ j e. refl) i
-
-pub some_same : {A : Type 0} (x y : A) → Some x ≡ Some y → x ≡ y
-some_same x y h = cc
 
 -- the facts of all nodes, after a move for the transaction of node i
 pub nodes_after : (i : ℕ) (s z : Shared) (p : Phase) (seat : Seat) (phases : ℕ → Phase) (seats : ℕ → Seat)
@@ -80,12 +78,6 @@ duty_of b ns v xs ms l r d run h = l.one d (Duty r) (both (is_running ns r) (owe
   where
     both : (x y : Bool) → x ≡ true → y ≡ true → x && y ≡ true
     both x y e f = grind arith
-
-pub duty_runs : (x y : Bool) → x && y ≡ true → (x ≡ true) × (y ≡ true)
-duty_runs true true e = (refl, refl)
-duty_runs true false e = cc
-duty_runs false true e = cc
-duty_runs false false e = cc
 
 -- a running node goes on with its own transaction
 pub link_own : (b b' : Base) (ns : Nodes) (v v' : ℕ → Bool) (xs : ℕ → Phase) (ms : ℕ → Option Mender) (n : ℕ) (p : Phase)
@@ -147,7 +139,7 @@ link_recovery b b' ns v v' xs ms n d p r c run o same e ok l =
       runs = λ i h. put_other d i p xs (λ q. apart ns i d h mine.1 (sym q)) ∙ l.runs i h;
       recoveries = λ j h. put_one (λ (i : ℕ) x. is_running ns i ≡ true → RecoveryOk b' (put d p xs) x) n r ns.recoveries (λ q. ok)
           (λ i ne q. recovery_later b b' c xs (put d p xs) (ns.recoveries i)
-          (λ x y. put_other d x p xs (λ z. not_two n i ne (some_same (Duty n) (Duty i) (sym mine.0 ∙ ap ms z ∙ (duty_of b ns v xs ms l i x q y).0)))) (l.recoveries i q)) j h;
+          (λ x y. put_other d x p xs (λ z. not_two n i ne (same_Some (Duty n) (Duty i) (sym mine.0 ∙ ap ms z ∙ (duty_of b ns v xs ms l i x q y).0)))) (l.recoveries i q)) j h;
       one = λ i m h. l.one i m (sym (mends_same i m) ∙ h);
       mended = λ i g. mended_still ns (record ns { recoveries = put n r ns.recoveries }) i (put d p xs i) (xs i) (ms i) (mends_same i)
           (λ q. put_other d i p xs (λ z. nobody n (sym mine.0 ∙ ap ms z ∙ q))) (l.mended i g);

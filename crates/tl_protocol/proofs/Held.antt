@@ -7,6 +7,8 @@ use Rattle.std.proofs.lemmas.Bool.{both_ways, or_left, eqb-true, eq-eqb, eqb-fal
 use Rattle.std.proofs.lemmas.Bool.Decides.{nat_tests}
 use Rattle.std.proofs.lemmas.List.Folds.{find-append, list_any-append}
 use Rattle.std.proofs.lemmas.Nat.Bits.{bit_at_or, bit_at-lt, bit_at-pow_same, bit_at-pow_other}
+use Rattle.std.proofs.lemmas.Option.{same_Some}
+use Rattle.tl_lemmas.proofs.Lists.{all_both, all_filter, all_map, all_of, all_push, filter_none, find_filter, find_map, found, or_none, passes, weaker}
 use Rattle.tl_base.specs.declared.node.NodeSet.{NodeSet}
 use Rattle.tl_base.specs.NodeSet.{has_node, with_node}
 use Rattle.tl_isolation.specs.declared.entry.Answer.{Answer}
@@ -16,8 +18,8 @@ use Rattle.tl_isolation.specs.declared.state.TxnPhase.TheVariants as phase
 use Rattle.tl_isolation.specs.State.{held_as, held_by, idle, is_idle, node_of, put_held, put_node, without_held}
 use Rattle.tl_isolation.specs.Step.{begin, lose}
 use Rattle.tl_protocol.proofs.Ledger.{lost}
-use Rattle.tl_isolation.proofs.Lookups.{all_filter, all_map, all_of, all_push, filter_none, find_filter, find_map, found, or_none, passes, some_same, weaker}
 use Rattle.tl_protocol.proofs.Shown.{IsTidy}
+use Rattle.tl_isolation.proofs.Known.{node_at}
 
 abbrev pub AreTidy : List Transaction → List ℕ → Type 0
 AreTidy held numbers = AllByRecursion (IsTidy held numbers) held
@@ -50,11 +52,11 @@ held_of held numbers n t tidy e = record {
 
 -- two held transactions with one number are one
 same_number : (held : List Transaction) (numbers : List ℕ) (t u : Transaction) → IsTidy held numbers t → IsTidy held numbers u → t.tid ≡ u.tid → t ≡ u
-same_number held numbers t u x y e = some_same t u (sym x.by_tid ∙ ap (λ (tid : ℕ). held_as tid held) e ∙ y.by_tid)
+same_number held numbers t u x y e = same_Some t u (sym x.by_tid ∙ ap (λ (tid : ℕ). held_as tid held) e ∙ y.by_tid)
 
 -- and two of one node
 same_node : (held : List Transaction) (numbers : List ℕ) (t u : Transaction) → IsTidy held numbers t → IsTidy held numbers u → t.node ≡ u.node → t ≡ u
-same_node held numbers t u x y e = some_same t u (sym x.by_node ∙ ap (λ (node : ℕ). held_by node held) e ∙ y.by_node)
+same_node held numbers t u x y e = same_Some t u (sym x.by_node ∙ ap (λ (node : ℕ). held_by node held) e ∙ y.by_node)
 
 -- the change leaves number and node
 record Keeps (f : Transaction → Transaction) (t : Transaction) : Type 0 where
@@ -71,10 +73,6 @@ by_tid_map held f keeps n =
     find_map (λ x. x.tid == n) f held
     (weaker (Keeps f) (λ x. ((f x).tid == n) ≡ (x.tid == n)) (λ x k. ap (λ (m : ℕ). m == n) k.tid) held keeps)
 
-both_of : {X : Type 0} (P Q : X → Type 0) (xs : List X) → AllByRecursion P xs → AllByRecursion Q xs → AllByRecursion (λ x. P x × Q x) xs
-both_of P Q [] h i = tt
-both_of P Q (x ∷ xs) h i = ((h.0, i.0), both_of P Q xs h.1 i.1)
-
 tidy_map : (held : List Transaction) (numbers : List ℕ) (f : Transaction → Transaction) → AreTidy held numbers → AllByRecursion (Keeps f) held → AreTidy (map f held) numbers
 tidy_map held numbers f tidy keeps =
     all_map (λ x. IsTidy held numbers x × Keeps f x) (IsTidy (map f held) numbers) f
@@ -84,7 +82,7 @@ tidy_map held numbers f tidy keeps =
       by_tid = ap (λ (n : ℕ). held_as n (map f held)) h.1.tid ∙ by_tid_map held f keeps x.tid ∙ ap (option_map f) h.0.by_tid;
       begun = ap (λ (n : ℕ). list_any (λ tid. tid == n) numbers) h.1.tid ∙ h.0.begun;
     })
-    held (both_of (IsTidy held numbers) (Keeps f) held tidy keeps)
+    held (all_both (IsTidy held numbers) (Keeps f) held tidy keeps)
 
 abbrev replaced : Transaction → Transaction → Transaction
 replaced t h = if h.tid == t.tid then t else h
@@ -228,14 +226,6 @@ held_begun held numbers n tid first tidy node none free =
 pub held_same : (held : List Transaction) (numbers : List ℕ) (n : ℕ) (now : Option Transaction) → AreTidy held numbers → held_by n held ≡ now → HeldTurn held held numbers n now
 held_same held numbers n now tidy e = record { tidy = tidy; here = e; others = λ m ne. refl }
 
--- the node's state is of the node
-node_of_node : (n : ℕ) (nodes : List NodeState) → (node_of n nodes).node ≡ n
-node_of_node n nodes = go (find (λ (s : NodeState). s.node == n) nodes) refl
-  where
-    go : (r : Option NodeState) → find (λ (s : NodeState). s.node == n) nodes ≡ r → (unwrap_or r (idle n)).node ≡ n
-    go None e = refl
-    go (Some s) e = eqb-true s.node n (passes (λ (x : NodeState). x.node == n) nodes s e)
-
 idle_is : (n : ℕ) (noted : Option ℕ) (outcome : Option Answer) → is_idle (record { node = n; noted = noted; outcome = outcome }) ≡ true
     → idle n ≡ record { node = n; noted = noted; outcome = outcome }
 idle_is n None None h = refl
@@ -291,20 +281,20 @@ pub node_noted : (nodes : List NodeState) (n : ℕ) (noted : Option ℕ) (outcom
     → NodeTurn nodes (put_node (record (node_of n nodes) { noted = noted }) nodes) n noted outcome
 node_noted nodes n noted outcome e =
     subst (λ (o : Option Answer). NodeTurn nodes (put_node (record (node_of n nodes) { noted = noted }) nodes) n noted o) e
-    (node_put nodes n (record (node_of n nodes) { noted = noted }) (node_of_node n nodes))
+    (node_put nodes n (record (node_of n nodes) { noted = noted }) (node_at n nodes))
 
 pub node_outcome : (nodes : List NodeState) (n : ℕ) (noted : Option ℕ) (outcome : Option Answer) → (node_of n nodes).noted ≡ noted
     → NodeTurn nodes (put_node (record (node_of n nodes) { outcome = outcome }) nodes) n noted outcome
 node_outcome nodes n noted outcome e =
     subst (λ (o : Option ℕ). NodeTurn nodes (put_node (record (node_of n nodes) { outcome = outcome }) nodes) n o outcome) e
-    (node_put nodes n (record (node_of n nodes) { outcome = outcome }) (node_of_node n nodes))
+    (node_put nodes n (record (node_of n nodes) { outcome = outcome }) (node_at n nodes))
 
 pub node_same : (nodes : List NodeState) (n : ℕ) (noted : Option ℕ) (outcome : Option Answer) → (node_of n nodes).noted ≡ noted → (node_of n nodes).outcome ≡ outcome
     → NodeTurn nodes nodes n noted outcome
 node_same nodes n noted outcome e f = record { noted = e; outcome = f; others = λ m ne. refl }
 
 -- bits of a set of nodes
-above_bit : (a : ℕ) → a ≤ 1 → max a 1 ≡ 1
+pub above_bit : (a : ℕ) → a ≤ 1 → max a 1 ≡ 1
 above_bit a h = omega arith
 
 no_bit : (a : ℕ) → max a 0 ≡ a

@@ -10,7 +10,8 @@ use Rattle.std.specs.List.{list_all, list_any, AllByRecursion}
 use Rattle.std.specs.Ordering.{is_eq, is_lt, match_ordering}
 use Rattle.std.proofs.lemmas.Bool.{and_parts, both_ways, eqb-true, eq-eqb, not-true, or_parts}
 use Rattle.std.proofs.lemmas.List.{get_or-set_other, length-set}
-use Rattle.std.proofs.lemmas.Option.{option_and_then_some}
+use Rattle.std.proofs.lemmas.Option.{option_and_then_some, same_Some}
+use Rattle.tl_lemmas.proofs.Lists.{all_filter, all_map, all_set}
 use Rattle.tl_values.specs.declared.value.Value.{Value}
 use Rattle.tl_values.specs.declared.value.Value.TheVariants as value
 use Rattle.tl_values.specs.Key.{IsValue}
@@ -35,15 +36,15 @@ use Rattle.tl_isolation.specs.Meaning.{change_of}
 use Rattle.tl_isolation.specs.Kinds.{gives_kind}
 use Rattle.tl_isolation.specs.Tables.{AreHome, FitsTable, HasTable, IsHome, OpensTable, Suits, opening_writes, sets_its_kind, table_of}
 use Rattle.tl_isolation.proofs.Computed.{kind_computed, set_of_kinds, set_value}
-use Rattle.tl_isolation.proofs.Lookups.{all_filter, all_map, some_same}
 use Rattle.tl_protocol.proofs.Shown.{AreHomeWrites}
+use Rattle.tl_write.proofs.Keys.{key_eq, none_below, sorted_entries}
 
 -- a row that is written is at home
 abbrev IsHomeWrite : Catalog → Write → Type 0
 IsHomeWrite catalog w = (row : List Value) → w.row ≡ Some row → IsHome catalog w.key row
 
 row_home : (catalog : Catalog) (key : List ℕ) (row : List Value) → IsHome catalog key row → IsHomeWrite catalog (record { key = key; row = Some row })
-row_home catalog key row h r e = subst (λ (x : List Value). IsHome catalog key x) (some_same row r e) h
+row_home catalog key row h r e = subst (λ (x : List Value). IsHome catalog key x) (same_Some row r e) h
 
 none_home : (catalog : Catalog) (key : List ℕ) → IsHomeWrite catalog (record { key = key; row = None })
 none_home catalog key r e = absurd cc
@@ -71,21 +72,12 @@ opening_home catalog (o ∷ os) fits =
     put_home catalog (record { key = key; row = Some o.row }) (opening_writes catalog os)
     (row_home catalog key o.row (record { number = o.table; table = fits.0.table; fits = fits.0.fits; accepted = fits.0.accepted; own_key = refl })) (opening_home catalog os fits.1)
 
--- keys that tie are one
-tie : (k l : List ℕ) → is_eq (key_cmp k l) ≡ true → k ≡ l
-tie k l h = slice_cmp-IsAntisymmetric nat_cmp-IsAntisymmetric k l (equal (key_cmp k l) h)
-  where
-    equal : (o : Ordering) → is_eq o ≡ true → o ≡ Equal
-    equal Less h = absurd cc
-    equal Equal h = refl
-    equal Greater h = absurd cc
-
 module _ (catalog : Catalog) where
   -- Tables. Writes that are at home are laid over rows that are
   inserted_home : (tables : Tables) (key : List ℕ) (row : List Value) → AreHome catalog tables → IsHome catalog key row → AreHome catalog (finmap.insert tables key row)
   inserted_home tables key row h i q r e =
       elim (is_eq (key_cmp q key)) as (λ b. is_eq (key_cmp q key) ≡ b → cond b (Some row) (finmap.get tables q) ≡ Some r → IsHome catalog q r) [
-        | true ↦ λ t e. subst (λ (k : List ℕ). IsHome catalog k r) (sym (tie q key t)) (row_home catalog key row i r e)
+        | true ↦ λ t e. subst (λ (k : List ℕ). IsHome catalog k r) (sym (key_eq q key t)) (row_home catalog key row i r e)
         | false ↦ λ t e. h q r e
       ] refl (sym (finmap.get-insert nat_list_cmp_total tables key row q) ∙ e)
 
@@ -105,18 +97,6 @@ module _ (catalog : Catalog) where
   laid_home tables [] h i = h
   laid_home tables (w ∷ ws) h i = laid_home (laid_write tables w) ws (laid_one tables w.key w.row h i.0) i.1
 
--- a key below each of these has no entry
-none_below : (k : List ℕ) (es : List (List ℕ × List Value)) → below_all key_cmp k es ≡ true → find key_cmp k es ≡ None
-none_below k [] h = refl
-none_below k (e ∷ es) h =
-    let parts = and_parts (is_lt (key_cmp k e.0)) (below_all key_cmp k es) h in
-    ap (λ (b : Bool). cond b (Some e.1) (find key_cmp k es)) (apart (key_cmp k e.0) parts.0) ∙ none_below k es parts.1
-  where
-    apart : (o : Ordering) → is_lt o ≡ true → is_eq o ≡ false
-    apart Less i = refl
-    apart Equal i = absurd cc
-    apart Greater i = absurd cc
-
 -- what is so of each look-up is so of each entry
 listed : (P : List ℕ → List Value → Type 0) (es : List (List ℕ × List Value)) → is_sorted key_cmp es ≡ true
     → ((k : List ℕ) (row : List Value) → find key_cmp k es ≡ Some row → P k row) → AllByRecursion (λ e. P e.0 e.1) es
@@ -132,20 +112,13 @@ listed P (e ∷ es) s h =
     later k row i below =
         elim (is_eq (key_cmp k e.0)) as (λ b. is_eq (key_cmp k e.0) ≡ b → cond b (Some e.1) (find key_cmp k es) ≡ Some row) [
           | true ↦ λ t.
-              let none : find key_cmp k es ≡ None = ap (λ (l : List ℕ). find key_cmp l es) (tie k e.0 t) ∙ none_below e.0 es below in
+              let none : find key_cmp k es ≡ None = ap (λ (l : List ℕ). find key_cmp l es) (key_eq k e.0 t) ∙ none_below e.0 es below in
               absurd (no_row (sym none ∙ i))
           | false ↦ λ t. i
         ] refl
       where
         no_row : ◌≡◌ {A = Option (List Value)} None (Some row) → ⊥
         no_row e = cc
-
-sorted : (tables : Tables) → is_sorted key_cmp (finmap.entries tables) ≡ true
-sorted tables = true_if (is_sorted key_cmp (finmap.entries tables)) (finmap.entries_sorted tables)
-  where
-    true_if : (b : Bool) → T b → b ≡ true
-    true_if true h = refl
-    true_if false h = absurd h
 
 -- the record is at home, and in the table of this number
 abbrev pub IsHomeIn : Catalog → ℕ → List ℕ × List Value → Type 0
@@ -157,7 +130,7 @@ matching_home catalog number condition tables h =
     all_filter (IsHomeIn catalog number) (IsHomeIn catalog number) (λ (e : List ℕ × List Value). lets_through condition e.1) (λ e i j. j) (records_in number tables)
     (all_filter (λ (e : List ℕ × List Value). IsHome catalog e.0 e.1) (IsHomeIn catalog number) (λ (e : List ℕ × List Value). is_in number e.0) (λ e i j. (j, i))
     (finmap.entries tables)
-    (listed (IsHome catalog) (finmap.entries tables) (sorted tables) (λ k row e. h k row (finmap.get-entries tables k ∙ e))))
+    (listed (IsHome catalog) (finmap.entries tables) (sorted_entries tables) (λ k row e. h k row (finmap.get-entries tables k ∙ e))))
 
 -- SET of another column leaves the values of the key
 one_column : (key : List ℕ) (values : List Value) (column : ℕ) (v : Value) → list_any (λ (place : ℕ). place == column) key ≡ false
@@ -170,22 +143,16 @@ one_column (place ∷ key) values column v h =
 columns_kept : (key : List ℕ) (sets : List SetColumn) (old new row : List Value)
     → list_any (λ (set : SetColumn). list_any (λ (place : ℕ). place == set.column) key) sets ≡ false → set_columns sets old new ≡ Some row
     → values_at key row ≡ values_at key new
-columns_kept key [] old new row h e = ap (values_at key) (sym (some_same new row e))
+columns_kept key [] old new row h e = ap (values_at key) (sym (same_Some new row e))
 columns_kept key (s ∷ ss) old new row h e =
     let parts = or_parts (list_any (λ (place : ℕ). place == s.column) key) (list_any (λ (set : SetColumn). list_any (λ (place : ℕ). place == set.column) key) ss) h in
     option_and_then_some (λ (v : Value). set_columns ss old (slice_set new s.column v)) (value_of s.value old) row e
     (λ v i j. columns_kept key ss old (slice_set new s.column v) row parts.1 j ∙ one_column key new s.column v parts.0)
 
--- a value that is set is one of the list
-set_all : {X : Type 0} (P : X → Type 0) (xs : List X) (place : ℕ) (y : X) → AllByRecursion P xs → P y → AllByRecursion P (slice_set xs place y)
-set_all P [] place y h p = tt
-set_all P (x ∷ xs) zero y h p = (p, h.1)
-set_all P (x ∷ xs) (suc place) y h p = (h.0, set_all P xs place y h.1 p)
-
 -- SET leaves a row that fits
 columns_fit : (table : Table) (sets : List SetColumn) (old new row : List Value) → FitsTable table old → list_all (sets_its_kind table.columns) sets ≡ true
     → FitsTable table new → set_columns sets old new ≡ Some row → FitsTable table row
-columns_fit table [] old new row o g h e = subst (FitsTable table) (some_same new row e) h
+columns_fit table [] old new row o g h e = subst (FitsTable table) (same_Some new row e) h
 columns_fit table (s ∷ ss) old new row o g h e =
     let parts = and_parts (sets_its_kind table.columns s) (list_all (sets_its_kind table.columns) ss) g in
     option_and_then_some (λ (v : Value). set_columns ss old (slice_set new s.column v)) (value_of s.value old) row e
@@ -194,7 +161,7 @@ columns_fit table (s ∷ ss) old new row o g h e =
     one : (v : Value) → sets_its_kind table.columns s ≡ true → value_of s.value old ≡ Some v → FitsTable table (slice_set new s.column v)
     one v g i = record {
       width = length-set new s.column v ∙ h.width;
-      values = set_all IsValue new s.column v h.values (set_value table.columns s old v o.values g i);
+      values = all_set IsValue new s.column v h.values (set_value table.columns s old v o.values g i);
       kinds = set_of_kinds (gives_kind table.columns s.value) table.columns new s.column v
           (λ k j. kind_computed table.columns old s.value k v o.kinds j i) g h.kinds;
     }

@@ -8,6 +8,8 @@ use Rattle.std.proofs.lemmas.Bool.{cases_lt, or_cases, or_left, or_right, or_fro
 use Rattle.std.proofs.lemmas.List.{reverse-append, length-append, length-reverse, take_all, take-append-le, drop-append-le, drop_all}
 use Rattle.std.proofs.lemmas.List.Folds.{list_any-append}
 use Rattle.std.proofs.lemmas.List.Elements.{filter-append}
+use Rattle.tl_lemmas.proofs.Orders.{equal_itself, equal_turned}
+use Rattle.tl_lemmas.proofs.Lists.{reverse_cons, weaker}
 use Rattle.tl_values.specs.declared.value.Value.{Value}
 use Rattle.tl_descriptor.specs.Tids.{TidSet, has}
 use Rattle.tl_write.specs.declared.write.Write.{Write}
@@ -18,32 +20,13 @@ use Rattle.tl_isolation.specs.State.{tables_after, tables_from}
 use Rattle.tl_protocol.specs.Store.{Key, last_of, over, same_key, written}
 use Rattle.tl_protocol.specs.Told.{count_in}
 use Rattle.tl_protocol.proofs.Ledger.{Clear, CommittedLater, view}
-use Rattle.tl_isolation.proofs.Lookups.{weaker}
-
-pub reverse_cons : {X : Type 0} (x : X) (xs : List X) → reverse (x ∷ xs) ≡ reverse xs ++ x ∷ []
-reverse_cons x xs = reverse-append (x ∷ []) xs
-
-eq_turned : (o : Ordering) → is_eq (ordering_reverse o) ≡ is_eq o
-eq_turned Less = refl
-eq_turned Equal = refl
-eq_turned Greater = refl
-
-eq_itself : (o : Ordering) → o ≡ ordering_reverse o → is_eq o ≡ true
-eq_itself Less e = absurd cc
-eq_itself Equal e = refl
-eq_itself Greater e = absurd cc
-
-same_turned : (k l : Key) → same_key k l ≡ same_key l k
-same_turned k l = ap is_eq (nat_list_cmp_total.antisymm k l) ∙ eq_turned (key_cmp l k)
-
-same_itself : (k : Key) → same_key k k ≡ true
-same_itself k = eq_itself (key_cmp k k) (nat_list_cmp_total.antisymm k k)
+use Rattle.tl_write.proofs.Keys.{key_itself, key_turned}
 
 get_insert : (tables : Tables) (k : Key) (row : List Value) (q : Key) → finmap.get (finmap.insert tables k row) q ≡ cond (same_key k q) (Some row) (finmap.get tables q)
-get_insert tables k row q = finmap.get-insert nat_list_cmp_total tables k row q ∙ ap (λ (b : Bool). cond b (Some row) (finmap.get tables q)) (same_turned q k)
+get_insert tables k row q = finmap.get-insert nat_list_cmp_total tables k row q ∙ ap (λ (b : Bool). cond b (Some row) (finmap.get tables q)) (key_turned q k)
 
 get_remove : (tables : Tables) (k q : Key) → finmap.get (finmap.remove tables k) q ≡ cond (same_key k q) None (finmap.get tables q)
-get_remove tables k q = finmap.get-remove nat_list_cmp_total tables k q ∙ ap (λ (b : Bool). cond b None (finmap.get tables q)) (same_turned q k)
+get_remove tables k q = finmap.get-remove nat_list_cmp_total tables k q ∙ ap (λ (b : Bool). cond b None (finmap.get tables q)) (key_turned q k)
 
 laid_one : (tables : Tables) (k : Key) (row : Option (List Value)) (q : Key) → finmap.get (laid_write tables (record { key = k; row = row })) q ≡ cond (same_key k q) row (finmap.get tables q)
 laid_one tables k None q = get_remove tables k q
@@ -138,7 +121,7 @@ written_one L own c (w ∷ ws) h f e =
 all_written : (own : List Write) → AllByRecursion (λ (w : Write). is_written w.key own ≡ true) own
 all_written [] = tt
 all_written (w ∷ ws) = (
-  or_left (same_key w.key w.key) (is_written w.key ws) (same_itself w.key),
+  or_left (same_key w.key w.key) (is_written w.key ws) (key_itself w.key),
   weaker (λ (x : Write). is_written x.key ws ≡ true) (λ (x : Write). is_written x.key (w ∷ ws) ≡ true)
       (λ x i. or_right (same_key w.key x.key) (is_written x.key ws) i) ws (all_written ws),
 )

@@ -1,41 +1,41 @@
 pub mod Account
-pub mod Attempts
-pub mod Beginning
+mod Attempts
+mod Beginning
 pub mod Borne
 pub mod Cells
-pub mod Confined
+mod Confined
 pub mod Duties
-pub mod Examples
+mod Examples
 pub mod Finished
-pub mod Finishing
+mod Finishing
 pub mod ForKey
 pub mod Frames
 pub mod Held
-pub mod History
-pub mod HomeKeys
+mod History
+mod HomeKeys
 pub mod Homes
 pub mod Inv
 pub mod Laid
-pub mod Later
+mod Later
 pub mod Ledger
 pub mod Managers
 pub mod Meanings
-pub mod Moves
-pub mod Named
-pub mod Opening
-pub mod Owner
-pub mod Play
+mod Moves
+mod Named
+mod Opening
+mod Owner
+mod Play
 pub mod Proper
-pub mod RarerMoves
-pub mod Refused
+mod RarerMoves
+mod Refused
 pub mod Reached
-pub mod Recovery
+mod Recovery
 pub mod Sets
 pub mod Showing
 pub mod Shown
 pub mod Standing
-pub mod Statements
+mod Statements
 pub mod Steps
-pub mod Stores
+mod Stores
 pub mod Turns
-pub mod Vanishing
+mod Vanishing

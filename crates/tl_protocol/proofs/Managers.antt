@@ -3,6 +3,7 @@ use Rattle.std.proofs.Common.{◌≡◌, ℕ, ◌<◌, ◌≤◌, Bool, true, fa
 use Rattle.std.specs.Prelude.{◌+◌, ◌^◌, if◌then◌else◌}
 use Rattle.std.proofs.lemmas.Bool.{both_ways}
 use Rattle.std.proofs.lemmas.Bool.Decides.{nat_tests}
+use Rattle.std.proofs.lemmas.Option.{same_Some}
 use Rattle.tl_descriptor.specs.Tids.{TidSet, IsWithin}
 use Rattle.tl_manager.specs.declared.active.Active.{Active}
 use Rattle.tl_manager.specs.Floor.{newer}
@@ -15,7 +16,7 @@ use Rattle.tl_protocol.proofs.Finished.{Finished, Snap, is_done}
 use Rattle.tl_protocol.proofs.Sets.{newer_known, newer_above, begins_within, within_trans}
 use Rattle.tl_protocol.proofs.Inv.{ActiveOk, Base, Core, Ghost, ManagersOk, NodeOk, NumbersOk, base, is_begun, is_taken, shared}
 use Rattle.tl_protocol.proofs.Later.{Later, grows_refl}
-use Rattle.tl_protocol.proofs.Frames.{active_after, active_after_phase, nodes_after, nodes_after_phase, put_both, put_one, put_other, some_same}
+use Rattle.tl_protocol.proofs.Frames.{active_after, active_after_phase, nodes_after, nodes_after_phase, put_both, put_one, put_other}
 use Rattle.tl_protocol.proofs.Steps.{later_same, with_phase}
 
 -- ---- the managers
@@ -46,7 +47,7 @@ managers_ended home top floors copies active cuts ds n o = record {
 managers_begun : (home : ℕ → ℕ) (top : ℕ) (floors : ℕ → ℕ → TidSet) (copies : ℕ → TidSet) (active : ℕ → Option Active) (cuts : Key → TidSet) (ds : List Finished) (n : ℕ) (y : Active)
     → copies (home n) ≡ y.snapshot → ManagersOk home top floors copies active cuts ds → ManagersOk home top floors copies (put n (Some y) active) cuts ds
 managers_begun home top floors copies active cuts ds n y e o =
-    let same : (x : Active) → Some y ≡ Some x → copies (home n) ≡ x.snapshot = λ x h. e ∙ ap (λ (z : Active). z.snapshot) (some_same y x h) in
+    let same : (x : Active) → Some y ≡ Some x → copies (home n) ≡ x.snapshot = λ x h. e ∙ ap (λ (z : Active). z.snapshot) (same_Some y x h) in
     record {
       at_home = o.at_home;
       copy_known = o.copy_known;

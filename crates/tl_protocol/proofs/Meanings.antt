@@ -7,9 +7,10 @@ use Rattle.std.specs.List.Sorted.{IsSorted}
 use Rattle.std.specs.Cmp.{tied_itself}
 use Rattle.std.specs.Cmp.Lexicographic.{nat_list_cmp_total}
 use Rattle.std.specs.Ordering.{is_eq, is_lt}
-use Rattle.std.proofs.lemmas.Bool.{and_from, eqb-true, or_left, or_right}
+use Rattle.std.proofs.lemmas.Bool.{and_from, eqb-true, not-true, or_left, or_right}
 use Rattle.std.proofs.lemmas.List.Folds.{list_any-append}
 use Rattle.std.proofs.lemmas.List.Sorted.{IsPermutation-refl}
+use Rattle.tl_lemmas.proofs.Tests.{and_first, and_second, or_first, or_second}
 use Rattle.tl_values.specs.declared.value.Value.{Value}
 use Rattle.tl_values.specs.Key.{key_bytes}
 use Rattle.tl_schema.specs.declared.access.Access.{Access}
@@ -45,24 +46,12 @@ use Rattle.tl_plan.specs.Law.{ComparesValues, HasKey}
 use Rattle.tl_plan.proofs.Suffices.{passing}
 use Rattle.tl_protocol.specs.Store.{Key, last_of, over, same_key, written}
 use Rattle.tl_protocol.specs.Move.{Changes, is_named}
-use Rattle.tl_protocol.proofs.Cells.{key_eq}
-use Rattle.tl_protocol.proofs.Confined.{keys_of, or_first, or_second, unwritten}
+use Rattle.tl_protocol.proofs.Confined.{keys_of, unwritten}
 use Rattle.tl_protocol.proofs.Laid.{get_laid}
+use Rattle.tl_write.proofs.Keys.{key_eq}
 
 abbrev pub Row : Type 0
 Row = List Value
-
-and_left : (a b : Bool) → (a && b) ≡ true → a ≡ true
-and_left true b e = refl
-and_left false b e = absurd cc
-
-and_right : (a b : Bool) → (a && b) ≡ true → b ≡ true
-and_right true b e = e
-and_right false b e = absurd cc
-
-not-true : (b : Bool) → not b ≡ true → b ≡ false
-not-true true e = absurd cc
-not-true false e = refl
 
 all_pass : {A : Type 0} (xs : List A) → filter (λ (x : A). true) xs ≡ xs
 all_pass [] = refl
@@ -238,7 +227,7 @@ module _ (catalog : Catalog) (u : Updating catalog) where
       → lets_through u.where_ row ≡ true → update_looks k ≡ true
   looks_there tables home k row has inside through =
       let h : IsHome catalog k row = home k row has in
-      let same : u.number ≡ h.number = eqb-true u.number h.number (and_left (u.number == h.number) true (ap (is_in u.number) (sym h.own_key) ∙ inside)) in
+      let same : u.number ≡ h.number = eqb-true u.number h.number (and_first (u.number == h.number) true (ap (is_in u.number) (sym h.own_key) ∙ inside)) in
       let fits = subst (λ (m : ℕ). FitsTable (table_of catalog m) row) (sym same) h.fits in
       let own : k ≡ record_key u.number (table_of catalog u.number) row = h.own_key ∙ ap (λ (m : ℕ). record_key m (table_of catalog m) row) (sym same) in
       let within : covers (access_of (table_of catalog u.number) 0 u.where_) (key_bytes (key_values (table_of catalog u.number) row)) row ≡ true =
@@ -301,8 +290,8 @@ sorted_so : (sorts : List Sort) (lines : List Line) → are_sorted sorts lines �
 sorted_so sorts [] e = λ k d low below. absurd (omega arith)
 sorted_so sorts (x ∷ []) e = λ k d low below. absurd (omega arith)
 sorted_so sorts (x ∷ y ∷ lines) e =
-    sorted_more sorts x y lines (not-true (is_lt (line_cmp sorts y x)) (and_left (not (is_lt (line_cmp sorts y x))) (are_sorted sorts (y ∷ lines)) e))
-    (sorted_so sorts (y ∷ lines) (and_right (not (is_lt (line_cmp sorts y x))) (are_sorted sorts (y ∷ lines)) e))
+    sorted_more sorts x y lines (not-true (is_lt (line_cmp sorts y x)) (and_first (not (is_lt (line_cmp sorts y x))) (are_sorted sorts (y ∷ lines)) e))
+    (sorted_so sorts (y ∷ lines) (and_second (not (is_lt (line_cmp sorts y x))) (are_sorted sorts (y ∷ lines)) e))
 
 -- what is answered where these are the lines
 abbrev pub lines_told : Option ℕ → Option (List Line) → Answer

@@ -3,19 +3,19 @@ use Rattle.std.proofs.Common.{◌≡◌, ℕ, ◌≤◌, Bool, true, false, List
 use Rattle.std.specs.Prelude.{◌==◌, if◌then◌else◌}
 use Rattle.std.specs.List.{AllByRecursion}
 use Rattle.std.proofs.lemmas.Bool.{eqb-true}
+use Rattle.std.proofs.lemmas.Option.{same_Some}
+use Rattle.tl_lemmas.proofs.Lists.{all_map, found}
 use Rattle.tl_schema.specs.declared.catalog.Catalog.{Catalog}
 use Rattle.tl_logrec.specs.declared.entry.Flag.TheVariants as flag
 use Rattle.tl_write.specs.declared.write.Write.{Write}
 use Rattle.tl_isolation.specs.declared.state.Transaction.{Transaction}
 use Rattle.tl_isolation.specs.declared.state.SiState.{SiState}
-use Rattle.tl_isolation.proofs.Lookups.{all_map, found}
 use Rattle.tl_protocol.specs.Store.{LogCell, put}
 use Rattle.tl_protocol.specs.World.{Txn, Fact, Live, Trying, Undoing, Stripping, World, At}
 use Rattle.tl_protocol.specs.Move as move
 use Rattle.tl_protocol.specs.Move.{Move}
 use Rattle.tl_protocol.specs.Next.{log_cell, next}
 use Rattle.tl_protocol.specs.Stands.{IsKeyOf}
-use Rattle.tl_protocol.proofs.Frames.{some_same}
 use Rattle.tl_protocol.proofs.Inv.{Ghost, Inv, LiveOk, NodeOk, TryingOk, UndoingOk, base, shared}
 use Rattle.tl_protocol.proofs.Ledger.{Ledger}
 use Rattle.tl_protocol.proofs.Shown.{AreHomeWrites, AreKeyed, Proper, Shows}
@@ -33,7 +33,7 @@ put_named : (catalog : Catalog) (tid : ℕ) (cell : LogCell) (logs : ℕ → Opt
 put_named catalog tid cell logs h i other log = by (tid == other) refl
   where
     by : (b : Bool) → (tid == other) ≡ b → (if b then Some cell else logs other) ≡ Some log → IsNamed catalog other log
-    by true e f = subst (λ (t : ℕ). IsNamed catalog t log) (eqb-true tid other e) (subst (IsNamed catalog tid) (some_same cell log f) h)
+    by true e f = subst (λ (t : ℕ). IsNamed catalog t log) (eqb-true tid other e) (subst (IsNamed catalog tid) (same_Some cell log f) h)
     by false e f = i other log f
 
 module _ (catalog : Catalog) (s : SiState) (a : Ledger) (shows : Shows s a) (proper : Proper catalog s) where

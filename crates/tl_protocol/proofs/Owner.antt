@@ -2,6 +2,7 @@
 use Rattle.std.proofs.Common.{◌≡◌, ℕ, Bool, true, false, ◌⊎◌, List, [], ◌∷◌, Option, Some, None, refl, sym, ap, ◌∙◌, subst, inl, inr, arith}
 use Rattle.std.specs.Prelude.{◌||◌, if◌then◌else◌, is_some, map}
 use Rattle.std.proofs.lemmas.Bool.{false≢true}
+use Rattle.std.proofs.lemmas.Option.{same_Some}
 use Rattle.tl_values.specs.declared.value.Value.{Value}
 use Rattle.tl_descriptor.specs.Tids.{TidSet, IsWithin, has}
 use Rattle.tl_logrec.specs.declared.entry.Flag.{Flag}
@@ -22,7 +23,6 @@ use Rattle.tl_protocol.proofs.Ledger.{CommittedLater, Ledger, Seat, view}
 use Rattle.tl_protocol.proofs.Finished.{Finished, Fits, Known, firsts, is_done}
 use Rattle.tl_protocol.proofs.Sets.{fits}
 use Rattle.tl_protocol.proofs.History.{shown_kept, stranger_later, written_is}
-use Rattle.tl_protocol.proofs.Frames.{some_same}
 use Rattle.tl_protocol.proofs.Inv.{Base, CellOk, CommitLog, Nothing, Said, Core, Front, Ghost, NodeOk, Shared, TxnOk, active_txn, held_txn, nowhere, own_stored, shared}
 
 -- the log cell of a transaction names the records of its own writes
@@ -58,7 +58,7 @@ owner_txn : (s : Shared) (i : ℕ) (t : Txn) (stored : Key → Bool) (held : Opt
     → (k : Key) (f : Front) → s.fronts k ≡ Some f → f.node ≡ i → Owner s.numbers s.finished k f held (s.logs f.tid)
 owner_txn s i t stored held p rival o n k f e m =
     let q = o.stands k (o.only k f e m) in
-    let x : f ≡ record { node = i; tid = t.tid; row = q.0; first = o.first } = some_same f (record { node = i; tid = t.tid; row = q.0; first = o.first }) (sym e ∙ q.2) in
+    let x : f ≡ record { node = i; tid = t.tid; row = q.0; first = o.first } = same_Some f (record { node = i; tid = t.tid; row = q.0; first = o.first }) (sym e ∙ q.2) in
     let r : t.tid ≡ f.tid = sym (ap (λ (y : Front). y.tid) x) in
     let w : is_written k t.own ≡ true = written_is k t.own ∙ ap is_some q.1 in
     record {

@@ -3,6 +3,7 @@ use Rattle.std.proofs.Common.{◌≡◌, ℕ, zero, suc, Bool, true, false, not,
 use Rattle.std.specs.Prelude.{◌==◌, if◌then◌else◌}
 use Rattle.std.specs.FinMap as finmap
 use Rattle.std.specs.List.{AllByRecursion}
+use Rattle.tl_lemmas.proofs.Lists.{all_filter, all_map, all_push, found}
 use Rattle.tl_values.specs.declared.value.Value.{Value}
 use Rattle.tl_schema.specs.declared.catalog.Catalog.{Catalog}
 use Rattle.tl_schema.specs.declared.catalog.Setup.{Setup}
@@ -29,7 +30,6 @@ use Rattle.tl_protocol.specs.World.{Decision, Commit as ToCommit, Undo, World}
 use Rattle.tl_protocol.specs.Move as move
 use Rattle.tl_protocol.specs.Move.{Move, is_nested, is_outside}
 use Rattle.tl_protocol.specs.Told.{finished_as, finished_so, told}
-use Rattle.tl_isolation.proofs.Lookups.{all_filter, all_map, all_push, found}
 use Rattle.tl_protocol.proofs.Shown.{AreHomeWrites, AreKeyed, Proper}
 use Rattle.tl_protocol.proofs.HomeKeys.{change_keyed, opening_keyed, puts_keyed}
 use Rattle.tl_protocol.proofs.Homes.{change_home, laid_home, opening_home, puts_home}

@@ -25,7 +25,7 @@ use Rattle.tl_protocol.proofs.Opening.{opening_ghost, opening_inv}
 use Rattle.tl_protocol.proofs.Moves.{move_kept}
 use Rattle.tl_protocol.proofs.Named.{AreNamed, next_named}
 
-state_append : (catalog : Catalog) (s : SiState) (es ds : List Entry) → state_from catalog s (es ++ ds) ≡ state_from catalog (state_from catalog s es) ds
+pub state_append : (catalog : Catalog) (s : SiState) (es ds : List Entry) → state_from catalog s (es ++ ds) ≡ state_from catalog (state_from catalog s es) ds
 state_append catalog s [] ds = refl
 state_append catalog s (e ∷ es) ds = state_append catalog (after catalog s e) es ds
 

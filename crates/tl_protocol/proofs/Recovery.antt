@@ -3,6 +3,7 @@ use Rattle.std.proofs.Common.{◌≡◌, ℕ, ◌<◌, Bool, true, false, List, 
 use Rattle.std.specs.Prelude.{◌==◌, ◌&&◌, ◌||◌, if◌then◌else◌, is_some, map}
 use Rattle.std.specs.List.{list_all, list_any}
 use Rattle.std.proofs.lemmas.Bool.{both_ways, false≢true}
+use Rattle.std.proofs.lemmas.Option.{same_Some}
 use Rattle.tl_descriptor.specs.Tids.{TidSet, has, inserted}
 use Rattle.tl_logrec.specs.declared.entry.Flag.{Flag}
 use Rattle.tl_logrec.specs.declared.entry.Flag.TheVariants as flag
@@ -27,12 +28,13 @@ use Rattle.tl_protocol.proofs.History.{written_is}
 use Rattle.tl_protocol.proofs.Owner.{named_keys}
 use Rattle.tl_protocol.proofs.Inv.{ActiveOk, Base, Blank, NoLog, Removed, CloseOk, CommitLog, Nothing, Said, Core, Ghost, Inv, Kept, Link, ManagersOk, NodeOk, Owes, RecoveryOk, Shared, base, held_txn, is_commit, is_trying, nodes_of, own_stored, shared, tid_of, unless_lost, vanished_of}
 use Rattle.tl_protocol.proofs.Later.{grows_refl}
-use Rattle.tl_protocol.proofs.Frames.{active_after, nodes_after_phase, put_same, some_same}
+use Rattle.tl_protocol.proofs.Frames.{active_after, nodes_after_phase, put_same}
 use Rattle.tl_protocol.proofs.Steps.{core_log, core_turn, later_same, recovery_at, with_phase}
-use Rattle.tl_protocol.proofs.Cells.{core_strip, grows_store, key_eq}
+use Rattle.tl_protocol.proofs.Cells.{core_strip, grows_store}
 use Rattle.tl_protocol.proofs.Finishing.{finish, grows_finish}
 use Rattle.tl_protocol.proofs.Borne.{borne, unborne}
 use Rattle.tl_protocol.proofs.Duties.{active_none, active_part, active_tid, duty_gone, key_cases, owes_end, owes_skip, owes_take, owes_turn, part_at, put_cases, turn_link, work_inv}
+use Rattle.tl_write.proofs.Keys.{key_eq}
 
 -- ---- what a recoverer does by the log cell
 
@@ -125,7 +127,7 @@ judge s i seat Idle o q g e n = cc
 judge s i seat (Noted seen) o q g e n = cc
 judge s i seat (Drawn seen low) o q g e n = cc
 judge s i seat (Live t facts) o q g e n =
-    let f = some_same t.tid o.tid e in
+    let f = same_Some t.tid o.tid e in
     record {
       new = Closing t (Undo None) None;
       ok = record {
@@ -141,7 +143,7 @@ judge s i seat (Live t facts) o q g e n =
       takes = λ b xs duties d h. by_its_log s t.tid o None b xs duties f n.log (d, closing b t o None (xs o.node) h f);
     }
 judge s i seat (Trying a l) o q g e n =
-    let f = some_same a.txn.tid o.tid e in
+    let f = same_Some a.txn.tid o.tid e in
     record {
       new = Undoing a None None;
       ok = record {
@@ -167,7 +169,7 @@ judge s i seat (Trying a l) o q g e n =
       );
     }
 judge s i seat (Undoing a rival l) o q g e n =
-    let f = some_same a.txn.tid o.tid e in
+    let f = same_Some a.txn.tid o.tid e in
     record {
       new = Undoing a rival None;
       ok = record { p = n.p; txn = n.txn; runs = n.runs; gives_up = n.gives_up; log = n.log; hand = tt };
@@ -185,9 +187,9 @@ judge s i seat (Undoing a rival l) o q g e n =
         },
       );
     }
-judge s i seat (Closing t ToCommit c) o q g e n = judge_commit s i seat t c o g (some_same t.tid o.tid e) n (s.logs t.tid) refl n.log
+judge s i seat (Closing t ToCommit c) o q g e n = judge_commit s i seat t c o g (same_Some t.tid o.tid e) n (s.logs t.tid) refl n.log
 judge s i seat (Closing t (Undo rival) c) o q g e n =
-    let f = some_same t.tid o.tid e in
+    let f = same_Some t.tid o.tid e in
     record {
       new = Closing t (Undo rival) None;
       ok = record { p = n.p; tried = n.tried; txn = n.txn; runs = n.runs; gives_up = n.gives_up; log = n.log; hand = tt };
@@ -196,7 +198,7 @@ judge s i seat (Closing t (Undo rival) c) o q g e n =
           (by_blank i t o (s.logs t.tid) b xs duties n.log d (closing b t o rival (xs o.node) h f));
     }
 judge s i seat (Ending tid told) o q g e n =
-    let f = some_same tid o.tid e in
+    let f = same_Some tid o.tid e in
     record {
       new = Ending tid told;
       ok = n;

@@ -1,6 +1,7 @@
 -- Rows and statements of accounts that no bound script has.
 use Rattle.std.proofs.Common.{◌≡◌, ◌<◌, ℕ, Bool, true, false, List, [], ◌∷◌, Some, None, refl, ap, arith}
 use Rattle.std.specs.Prelude.{◌&&◌}
+use Rattle.tl_lemmas.proofs.Tests.{never_both}
 use Rattle.tl_values.specs.declared.value.Comparison.TheVariants as comparison
 use Rattle.tl_values.specs.declared.value.Kind.{Kind}
 use Rattle.tl_values.specs.declared.value.Kind.TheVariants as kind
@@ -24,16 +25,12 @@ use Rattle.tl_isolation.proofs.Computed.{alike_test, kind_of_literal}
 use Rattle.tl_isolation.proofs.Grouped.{over_place}
 use Rattle.tl_protocol.proofs.Account.{account, bank, number, with_balance}
 
-apart : (b : Bool) → b ≡ true → b ≡ false → ⊥
-apart true h i = cc
-apart false h i = cc
-
 abbrev some_text : Value
 some_text = value.Text (97 ∷ [])
 
 -- a text where a balance stands
 pub text_for_a_balance : FitsTable account (number 1 ∷ some_text ∷ []) → ⊥
-text_for_a_balance h = apart false h.kinds refl
+text_for_a_balance h = never_both false h.kinds refl
 
 -- a row of a second table
 pub row_of_no_table : OpensTable bank (record { table = 1; row = with_balance 1 10 }) → ⊥
@@ -42,16 +39,16 @@ row_of_no_table h = let below : 1 < 1 = h.table in omega (arith, below)
 -- SET balance = 'a'
 pub set_to_a_text : Suits bank (Update 0 (record { column = 1; value = expression.Literal some_text } ∷ []) None) → ⊥
 set_to_a_text h =
-    apart (gives_kind account.columns (expression.Literal some_text) kind.Int && true) h.change.1
+    never_both (gives_kind account.columns (expression.Literal some_text) kind.Int && true) h.change.1
     (ap (λ (g : Kind → Bool). g kind.Int && true) (kind_of_literal account.columns some_text))
 
 -- SET of a third column
 pub set_of_no_column : Suits bank (Update 0 (record { column = 2; value = expression.Literal (number 1) } ∷ []) None) → ⊥
-set_of_no_column h = apart false h.change.1 refl
+set_of_no_column h = never_both false h.change.1 refl
 
 -- DELETE WHERE id = 'a'
 pub compared_with_a_text : Suits bank (Delete 0 (Some (condition.Test (side.Place 0) comparison.Equal (side.Literal some_text)))) → ⊥
-compared_with_a_text h = apart _ h.change (alike_test account.columns (side.Place 0) comparison.Equal (side.Literal some_text))
+compared_with_a_text h = never_both _ h.change (alike_test account.columns (side.Place 0) comparison.Equal (side.Literal some_text))
 
 -- a SELECT of five tables
 abbrev of_five : Query → Query
@@ -70,16 +67,16 @@ of_account query outputs group sort = record query { from = record { table = 0; 
 -- SELECT balance, COUNT(*)
 pub column_beside_a_count : (query : Query) → SuitsQuery bank (of_account query (output.Expression (expression.Place 1) ∷ output.CountRows ∷ []) [] []) → ⊥
 column_beside_a_count query h =
-    apart (is_over [] (expression.Place 1) && true) (h.grouped refl).0 (ap (λ (b : Bool). b && true) (over_place [] 1))
+    never_both (is_over [] (expression.Place 1) && true) (h.grouped refl).0 (ap (λ (b : Bool). b && true) (over_place [] 1))
 
 -- SELECT balance .. GROUP BY id
 pub column_beside_a_group : (query : Query) → SuitsQuery bank (of_account query (output.Expression (expression.Place 1) ∷ []) (0 ∷ []) []) → ⊥
 column_beside_a_group query h =
-    apart (is_over (0 ∷ []) (expression.Place 1) && true) (h.grouped refl).0 (ap (λ (b : Bool). b && true) (over_place (0 ∷ []) 1))
+    never_both (is_over (0 ∷ []) (expression.Place 1) && true) (h.grouped refl).0 (ap (λ (b : Bool). b && true) (over_place (0 ∷ []) 1))
 
 -- SELECT COUNT(*) .. GROUP BY id ORDER BY balance
 pub sorted_beside_a_group : (query : Query) → SuitsQuery bank (of_account query (output.CountRows ∷ []) (0 ∷ []) (record { by = by.Place 1; descending = false } ∷ [])) → ⊥
-sorted_beside_a_group query h = apart false (h.grouped refl).1 refl
+sorted_beside_a_group query h = never_both false (h.grouped refl).1 refl
 
 -- a SELECT that prints no column
 pub select_of_no_column : (query : Query) → SuitsQuery bank (of_account query [] [] []) → ⊥

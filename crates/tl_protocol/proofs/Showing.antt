@@ -8,6 +8,7 @@ use Rattle.std.proofs.lemmas.Bool.Decides.{nat_tests}
 use Rattle.std.proofs.lemmas.List.{length-reverse, take_all}
 use Rattle.std.proofs.lemmas.List.Folds.{list_any-append}
 use Rattle.std.proofs.lemmas.Nat.Bits.{bit_at-zero}
+use Rattle.tl_lemmas.proofs.Lists.{any_found, found, none_any, none_passes, passes, reverse_cons, weaker}
 use Rattle.tl_schema.specs.declared.catalog.Catalog.{Catalog}
 use Rattle.tl_schema.specs.declared.catalog.Setup.{Setup}
 use Rattle.tl_descriptor.specs.Tids.{TidSet}
@@ -35,8 +36,7 @@ use Rattle.tl_protocol.specs.Told.{count_in, says}
 use Rattle.tl_protocol.proofs.Ledger.{Ledger, Clear, CommittedLater, ended, holding, left, lost, opening_ledger, seated, view}
 use Rattle.tl_protocol.proofs.Shown.{IsTidy, Proper, Shows, Tells}
 use Rattle.tl_protocol.proofs.Proper.{tables_home}
-use Rattle.tl_isolation.proofs.Lookups.{any_found, found, none_any, none_passes, passes, weaker}
-use Rattle.tl_protocol.proofs.Laid.{count_turned, later_any, none_later, reverse_cons, tables_viewed, writes_one}
+use Rattle.tl_protocol.proofs.Laid.{count_turned, later_any, none_later, tables_viewed, writes_one}
 use Rattle.tl_protocol.proofs.Held.{HeldTurn, NodeTurn, held_begun, held_lost, node_noted, node_put, vanished_here, vanished_other}
 use Rattle.tl_protocol.proofs.Turns.{end_turned, held_by_number, held_turned, held_unchanged, holds_it, said_alone, said_turned, turned, turned_alone}
 

@@ -3,6 +3,7 @@
 use Rattle.std.proofs.Common.{◌≡◌, ℕ, Bool, true, false, List, [], ◌∷◌, ◌++◌, length, Option, Some, None, refl, sym, ap, ◌∙◌, subst, arith}
 use Rattle.std.specs.List.{AllByRecursion}
 use Rattle.std.proofs.lemmas.Bool.{both_ways}
+use Rattle.std.proofs.lemmas.Option.{same_Some}
 use Rattle.tl_schema.specs.declared.catalog.Setup.{Setup}
 use Rattle.tl_descriptor.specs.Tids.{TidSet, IsWithin, has}
 use Rattle.tl_manager.specs.declared.active.Active.{Active}
@@ -20,7 +21,6 @@ use Rattle.tl_protocol.proofs.Showing.{all_tables_shown, held_shown, tables_show
 use Rattle.tl_protocol.proofs.Finished.{Fits, Known, firsts}
 use Rattle.tl_protocol.proofs.Sets.{firsts_all, has_done, snap_within}
 use Rattle.tl_protocol.proofs.History.{IsKept, all_in_history, history}
-use Rattle.tl_protocol.proofs.Frames.{some_same}
 use Rattle.tl_protocol.proofs.Inv.{ActiveOk, Base, CellOk, Core, Front, Ghost, MenderOk, NodeOk, Nodes, Shared, TxnOk, active_txn, base, held_txn, mends_it, nodes_of, nowhere, own_stored, shared, tid_of, txn_in}
 use Rattle.tl_protocol.proofs.Reached.{Reached}
 use Rattle.tl_protocol.proofs.ForKey.{logs_for, records_for}
@@ -59,7 +59,7 @@ record HeldAt (s : Shared) (i : ℕ) (p : Phase) (h : Transaction) : Type 0 wher
 held_by_txn : (s : Shared) (i : ℕ) (p : Phase) (t : Txn) (stored : Key → Bool) (held : Option Transaction) (q : TxnPhase) (b : Bool) (r : Option ℕ) (h : Transaction)
     → txn_in p ≡ Some t → TxnOk s i t stored held q b r → held ≡ Some h → HeldAt s i p h
 held_by_txn s i p t stored held q b r h e o w =
-    let x : h ≡ held_txn i o.first t q b r = some_same h (held_txn i o.first t q b r) (sym w ∙ o.is_held) in
+    let x : h ≡ held_txn i o.first t q b r = same_Some h (held_txn i o.first t q b r) (sym w ∙ o.is_held) in
     record {
       t = t;
       in_phase = e;
@@ -84,10 +84,10 @@ active_in : (i : ℕ) (p : Phase) (o : Option Active) (t : Txn) → ActiveOk i p
 active_in i Idle o t h e = cc
 active_in i (Noted s) o t h e = cc
 active_in i (Drawn s low) o t h e = cc
-active_in i (Live x facts) o t h e = subst (λ y. o ≡ Some (active_txn i y)) (some_same x t e) h
-active_in i (Trying a l) o t h e = subst (λ y. o ≡ Some (active_txn i y)) (some_same a.txn t e) h
-active_in i (Undoing a r l) o t h e = subst (λ y. o ≡ Some (active_txn i y)) (some_same a.txn t e) h
-active_in i (Closing x d c) o t h e = subst (λ y. o ≡ Some (active_txn i y)) (some_same x t e) h
+active_in i (Live x facts) o t h e = subst (λ y. o ≡ Some (active_txn i y)) (same_Some x t e) h
+active_in i (Trying a l) o t h e = subst (λ y. o ≡ Some (active_txn i y)) (same_Some a.txn t e) h
+active_in i (Undoing a r l) o t h e = subst (λ y. o ≡ Some (active_txn i y)) (same_Some a.txn t e) h
+active_in i (Closing x d c) o t h e = subst (λ y. o ≡ Some (active_txn i y)) (same_Some x t e) h
 active_in i (Ending x told) o t h e = cc
 
 module _ (b : Base) (a : Ledger) (g : Ghost) (c : Core b a g) where
@@ -172,5 +172,5 @@ one_mender setup w s es r d x g e =
     let q = has_mender (nodes_of w) d (r.ghost.phases d) (w.active d) x (r.inv.core.active d) e (r.ghost.menders d) (l.mended d g) in (
       q.0,
       same_mends w d q.0 ∙ q.2,
-      λ other h. some_same other q.0 (sym (l.one d other (sym (same_mends w d other) ∙ h)).0 ∙ q.1),
+      λ other h. same_Some other q.0 (sym (l.one d other (sym (same_mends w d other) ∙ h)).0 ∙ q.1),
     )

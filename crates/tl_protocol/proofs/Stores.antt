@@ -2,6 +2,7 @@
 use Rattle.std.proofs.Common.{◌≡◌, ℕ, ◌<◌, ◌≤◌, Bool, true, false, ⊎_elim, List, [], ◌∷◌, Option, Some, None, refl, sym, ap, ◌∙◌, subst}
 use Rattle.std.specs.Prelude.{is_some, if◌then◌else◌}
 use Rattle.std.proofs.lemmas.Bool.{false≢true}
+use Rattle.std.proofs.lemmas.Option.{same_Some}
 use Rattle.tl_values.specs.declared.value.Value.{Value}
 use Rattle.tl_descriptor.specs.Tids.{TidSet, IsWithin, has}
 use Rattle.tl_manager.specs.declared.active.Active.{Active}
@@ -17,10 +18,11 @@ use Rattle.tl_protocol.proofs.Finished.{Snap}
 use Rattle.tl_protocol.proofs.Sets.{begins_within, within_trans}
 use Rattle.tl_protocol.proofs.History.{IsKept, clear_kept, history, prune_kept, written_is}
 use Rattle.tl_protocol.proofs.Inv.{CellOk, Front, Ghost, Inv, Kept, base, nodes_of, vanished_of}
-use Rattle.tl_protocol.proofs.Frames.{link_own, some_same}
+use Rattle.tl_protocol.proofs.Frames.{link_own}
 use Rattle.tl_protocol.proofs.Steps.{active_at, node_at}
 use Rattle.tl_protocol.proofs.Owner.{no_front, txn_fits, unknown_front}
-use Rattle.tl_protocol.proofs.Cells.{Standing, core_store, core_strip, grows_store, key_eq, managers_cut, put_at_other, put_at_same}
+use Rattle.tl_protocol.proofs.Cells.{Standing, core_store, core_strip, grows_store, managers_cut, put_at_other, put_at_same}
+use Rattle.tl_write.proofs.Keys.{key_eq}
 
 some_there : {A : Type 0} (o : Option A) → is_some o ≡ true → (x : A) × (o ≡ Some x)
 some_there None e = absurd (false≢true e)
@@ -96,7 +98,7 @@ module _ (w : World) (a : Ledger) (g : Ghost) (v : Inv w a g) where
           )
               (λ j ne. put_at_other l.key j cut g.cuts ne)
               (λ f e. absurd (nothing g.fronts l.key f free e))
-              (λ f e. sym (ap (λ (y : Front). y.node) (some_same front f e)))
+              (λ f e. sym (ap (λ (y : Front). y.node) (same_Some front f e)))
               (managers_cut w.home w.top w.floors w.copies w.active g.cuts g.finished v.core.managers l.key cut copies snaps)
               (record {
                 txn = record {

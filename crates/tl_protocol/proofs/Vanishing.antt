@@ -1,7 +1,7 @@
 -- The moves that change who is to mend what a vanished node left: a node vanishes, its death notice is taken, all is recovered.
 use Rattle.std.proofs.Common.{◌≡◌, ℕ, ◌≤◌, Bool, true, false, Option, Some, None, refl, sym, ap, ◌∙◌, subst, inl, ⊎_elim, arith}
 use Rattle.std.specs.Prelude.{◌==◌, ◌&&◌, ◌||◌, not, if◌then◌else◌}
-use Rattle.std.proofs.lemmas.Bool.{both_ways, eqb-true, eqb-false, eq-eqb, false≢true, or_cases, or_left}
+use Rattle.std.proofs.lemmas.Bool.{and_parts, both_ways, eq-eqb, eqb-false, eqb-true, false_from_ne_true, false≢true, or_cases, or_left}
 use Rattle.std.proofs.lemmas.Bool.Decides.{nat_tests}
 use Rattle.tl_isolation.specs.declared.entry.Ending.{Ending as Ends}
 use Rattle.tl_isolation.specs.declared.state.Transaction.{Transaction}
@@ -15,7 +15,7 @@ use Rattle.tl_protocol.specs.Stands.{Mender, Notice, Duty, posted}
 use Rattle.tl_protocol.proofs.Ledger.{Ledger, Seat, left, lost, seated}
 use Rattle.tl_protocol.proofs.Inv.{Base, Core, FreeOk, Ghost, IdleOk, Inv, Kept, Link, MenderOk, NodeOk, Nodes, NotedOk, Owes, RecoveryOk, Shared, TxnOk, base, is_running, mends_it, nodes_of, shared, tid_of, vanished_of}
 use Rattle.tl_protocol.proofs.Showing.{said_recovered, vanished}
-use Rattle.tl_protocol.proofs.Frames.{apart, duty_of, duty_runs, put_one, put_other, put_same}
+use Rattle.tl_protocol.proofs.Frames.{apart, duty_of, put_one, put_other, put_same}
 use Rattle.tl_protocol.proofs.Steps.{node_at, not_vanished, numbered, recovery_at, seated_vanished}
 use Rattle.tl_protocol.proofs.Duties.{none_held, put_cases}
 
@@ -119,10 +119,6 @@ same_duty n r o e f = cc
 same_notice : (n r : ℕ) (o : Option Mender) → o ≡ Some (Notice n) → o ≡ Some (Notice r) → n ≡ r
 same_notice n r o e f = cc
 
-never_true : (x : Bool) → (x ≡ true → ⊥) → x ≡ false
-never_true true h = absurd (h refl)
-never_true false h = refl
-
 -- ---- a node vanishes
 
 abbrev after_vanishing : Nodes → ℕ → Nodes
@@ -175,7 +171,7 @@ module _ (b : Base) (ns : Nodes) (v : ℕ → Bool) (xs : ℕ → Phase) (ms : �
       let own = (l.one d (Notice x) e).0 in
       absurd (⊎_elim (λ c. mended_apart run d (Notice x) e (eqb-true n d c)) (λ o. not_both n x (ms d) (duty_mender run d o) own) (or_cases (n == d) (owed (ns.recoveries n) d) t))) e
   vanish_only run d (Duty r) t e =
-      let e2 = duty_runs (is_running (after_vanishing ns n) r) (owed (ns.recoveries r) d) e in
+      let e2 = and_parts (is_running (after_vanishing ns n) r) (owed (ns.recoveries r) d) e in
       let s = still_runs ns n r e2.0 in
       let m : (ms d ≡ Some (Duty r)) × (ns.gone d ≡ true) = duty_of b ns v xs ms l r d s.1 e2.1 in
       absurd (⊎_elim (λ c. apart ns n d run m.1 (eqb-true n d c)) (λ o. s.0 (same_duty n r (ms d) (duty_mender run d o) m.0)) (or_cases (n == d) (owed (ns.recoveries n) d) t))
@@ -250,7 +246,7 @@ module _ (b : Base) (ns : Nodes) (v : ℕ → Bool) (xs : ℕ → Phase) (ms : �
       (λ q e. absurd (false≢true e))
       (λ q e. absurd (q (same_notice gone x (ms d) (claimed d t).0 (l.one d (Notice x) e).0))) e
   claim_only d (Duty r) t e =
-      let e2 = duty_runs (is_running ns r) (owed (put n (Next (claimed_duties gone also)) ns.recoveries r) d) e in
+      let e2 = and_parts (is_running ns r) (owed (put n (Next (claimed_duties gone also)) ns.recoveries r) d) e in
       put_cases (λ y. owed y d ≡ true → Some (Duty n) ≡ Some (Duty r)) n r (Next (claimed_duties gone also)) ns.recoveries
       (λ q o. ap (λ y. Some (Duty y)) q)
       (λ q o. absurd (not_both r gone (ms d) (duty_of b ns v xs ms l r d e2.0 o).0 (claimed d t).0)) e2.1
@@ -306,7 +302,7 @@ module _ (b : Base) (ns : Nodes) (v v' : ℕ → Bool) (xs : ℕ → Phase) (ms 
   recovered_only : (d : ℕ) (m : Mender) → duties.all d ≡ true → mends_it (after_recovery ns n) d m ≡ true → ⊥
   recovered_only d (Notice x) t e = not_both n x (ms d) (mine d t).0 (l.one d (Notice x) e).0
   recovered_only d (Duty r) t e =
-      let e2 = duty_runs (is_running ns r) (owed (put n NoDuty ns.recoveries r) d) e in
+      let e2 = and_parts (is_running ns r) (owed (put n NoDuty ns.recoveries r) d) e in
       put_cases (λ y. owed y d ≡ true → ⊥) n r NoDuty ns.recoveries
       (λ q o. false≢true o)
       (λ q o. q (same_duty n r (ms d) (mine d t).0 (duty_of b ns v xs ms l r d e2.0 o).0)) e2.1

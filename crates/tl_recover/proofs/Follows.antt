@@ -2,6 +2,7 @@
 use Rattle.std.proofs.Common.{◌≡◌, ℕ, ◌+◌, Bool, true, false, not, ◌||◌, List, [], ◌∷◌, Option, Some, None, zero, suc, refl, sym, ap, ◌∙◌, subst, arith}
 use Rattle.std.specs.Prelude.{◌^◌, nat_lt, drop, slice_get, is_some, if◌then◌else◌}
 use Rattle.std.specs.List.{list_any}
+use Rattle.std.proofs.lemmas.Bool.{or_right}
 use Rattle.tl_descriptor.specs.Tids.{has, inserted}
 use Rattle.tl_logrec.specs.declared.entry.Flag.{Flag}
 use Rattle.tl_logrec.specs.declared.entry.Flag.TheVariants as flag
@@ -48,9 +49,6 @@ FitsIn t now heard awaited =
     (says_doing t.settings t.catalog t.commits t.node t.statement (doing_of t.gone t.nodes now) heard t.told)
     (is_odd_for (doing_of t.gone t.nodes now) heard) awaited (takes t.settings t.nodes now heard)
 
-odd_at : (a b : Bool) → b ≡ true → (a || b) ≡ true
-odd_at a b h = grind arith
-
 -- ---- the duties
 
 -- those behind this node
@@ -84,7 +82,7 @@ finding_fits t d (Told (manager.Orphaned tids)) = by (list_any (nat_lt (2 ^ 62))
     by : (b : Bool) → list_any (nat_lt (2 ^ 62)) tids ≡ b
         → Fits t (law.next_lost t.node (duties t d) d tids) (says_recovered t.node (duties t d) tids (duties_after d t.nodes))
         (list_any (nat_lt (2 ^ 62)) tids) true (code.unless_odd b (code.next_lost t.settings t.nodes d tids))
-    by true e = λ h. odd_at (is_stopped (law.next_lost t.node (duties t d) d tids).doing) (list_any (nat_lt (2 ^ 62)) tids) e
+    by true e = λ h. or_right (is_stopped (law.next_lost t.node (duties t d) d tids).doing) (list_any (nat_lt (2 ^ 62)) tids) e
     by false e = next_fits t (list_any (nat_lt (2 ^ 62)) tids) true d tids
 finding_fits t d (Told reply) = λ h. refl
 finding_fits t d heard = λ h. refl
@@ -146,7 +144,7 @@ log_fits t lost (Log (Some log)) = by (code.is_odd_log lost.tid log) refl
         → Fits t (law.by_flag t.node (duties t lost.node) (lost_of lost) log log.entry.flag) [] (code.is_odd_log lost.tid log) true
         (code.unless_odd b (code.by_flag lost log log.entry.flag))
     by true e =
-        λ h. odd_at (is_stopped (law.by_flag t.node (duties t lost.node) (lost_of lost) log log.entry.flag).doing) (code.is_odd_log lost.tid log) e
+        λ h. or_right (is_stopped (law.by_flag t.node (duties t lost.node) (lost_of lost) log log.entry.flag).doing) (code.is_odd_log lost.tid log) e
     by false e = flag_fits t (code.is_odd_log lost.tid log) true lost log log.entry.flag
 log_fits t lost heard = λ h. refl
 

@@ -13,16 +13,7 @@ use Rattle.tl_recover.specs.Heeds.{request_of, written}
 use Rattle.tl_recover.specs.Taken.{duties_after, finding}
 use Rattle.tl_recover.proofs.Numbers.{from_number}
 use Rattle.tl_recover.proofs.Rising.{after_none}
-
-above_bit : (a : ℕ) → a ≤ 1 → max a 1 ≡ 1
-above_bit a h = omega arith
-
--- a set with a node has it
-pub is_there : (set : NodeSet) (n : ℕ) → has_node (with_node set n) n ≡ true
-is_there set n =
-    ap (λ (b : ℕ). b == 1)
-    (bit_at_or set.0 (2 ^ (n - 1)) (n - 1) ∙ ap (max (bit_at set.0 (n - 1))) (bit_at-pow_same (n - 1))
-    ∙ above_bit (bit_at set.0 (n - 1)) (let below = bit_at-lt set.0 (n - 1) in omega arith))
+use Rattle.tl_protocol.proofs.Held.{above_bit, vanished_here}
 
 rest_none : (b : Bool) (x : ℕ) (xs : List ℕ) → cond b (x ∷ xs) xs ≡ [] → xs ≡ []
 rest_none true x xs e = absurd cc

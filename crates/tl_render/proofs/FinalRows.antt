@@ -8,6 +8,8 @@ use Rattle.std.specs.FinMap as finmap
 use Rattle.std.specs.FinMap.{nat_cmp-IsAntisymmetric, slice_cmp-IsAntisymmetric}
 use Rattle.std.specs.FinMap.Entries.{below_all, find, is_sorted}
 use Rattle.std.specs.List.{AllByRecursion}
+use Rattle.std.proofs.lemmas.Option.{same_Some}
+use Rattle.tl_lemmas.proofs.Tests.{held}
 use Rattle.tl_base.specs.declared.place.Settings.{Settings}
 use Rattle.tl_values.specs.declared.value.Value.{Value}
 use Rattle.tl_descriptor.specs.Reading.{read_set}
@@ -25,12 +27,10 @@ use Rattle.tl_isolation.specs.History.{state_after}
 use Rattle.tl_isolation.specs.Script.{setup_of}
 use Rattle.tl_isolation.specs.State.{tables_after}
 use Rattle.tl_isolation.specs.Tables.{AreHome, opening_writes}
-use Rattle.tl_isolation.proofs.Lookups.{some_same}
 use Rattle.tl_protocol.specs.Run.{opening_versions, opening_world}
 use Rattle.tl_protocol.specs.Stands.{StandsFor}
 use Rattle.tl_protocol.specs.Store.{Key, last_of, row_of, row_shown, same_key, written}
 use Rattle.tl_protocol.specs.World.{World}
-use Rattle.tl_protocol.proofs.Cells.{key_eq}
 use Rattle.tl_protocol.proofs.Proper.{tables_home}
 use Rattle.tl_protocol.proofs.Reached.{reached}
 use Rattle.tl_protocol.proofs.Standing.{stands_for}
@@ -43,12 +43,12 @@ use Rattle.tl_journal.specs.Served.{is_record_key, parts_of}
 use Rattle.tl_journal.proofs.Journals.{holds_at, stood_at}
 use Rattle.tl_journal.proofs.Opens.{layout_of}
 use Rattle.tl_journal.proofs.Store.{StoreIs}
-use Rattle.tl_journal.proofs.StoreLogs.{same_key_turned}
 use Rattle.tl_journal.proofs.StoreOpening.{opening_store}
 use Rattle.tl_places.specs.Opening.{row_writes}
 use Rattle.tl_render.specs.Stored.{Stored, finished_in, last_stored, row_in, with_cells}
 use Rattle.tl_render.proofs.LastStores.{cell_last, events_home, value_over}
 use Rattle.tl_render.proofs.ShownRows.{none_below, other_rows, shown_over, shown_rows}
+use Rattle.tl_write.proofs.Keys.{key_eq, key_turned}
 
 abbrev Entry : Type 0
 Entry = Key × List Value
@@ -75,7 +75,7 @@ written_found : (es : List Entry) (q : Key) → is_sorted key_cmp es ≡ true �
 written_found [] q sorted = refl
 written_found (e ∷ es) q sorted =
     let parts = and_parts (below_all key_cmp e.0 es) (is_sorted key_cmp es) sorted in
-    ap (λ (b : Bool). last_of (if b then Some (Some e.1) else None) (written q (map row_write es))) (same_key_turned e.0 q)
+    ap (λ (b : Bool). last_of (if b then Some (Some e.1) else None) (written q (map row_write es))) (key_turned e.0 q)
     ∙ by (same_key q e.0) refl parts.0 (written_found es q parts.1)
   where
     by : (b : Bool) → same_key q e.0 ≡ b → below_all key_cmp e.0 es ≡ true → written q (map row_write es) ≡ there (find key_cmp q es)
@@ -85,12 +85,8 @@ written_found (e ∷ es) q sorted =
         ap (last_of (Some (Some e.1))) (rest ∙ ap there none)
     by false apart below rest = last_none (written q (map row_write es)) ∙ rest
 
-is_so : (b : Bool) → T b → b ≡ true
-is_so true h = refl
-is_so false h = absurd h
-
 pub sorted_entries : {X : Type 0} (m : finmap.FinMap key_cmp X) → is_sorted key_cmp (finmap.entries m) ≡ true
-sorted_entries m = is_so (is_sorted key_cmp (finmap.entries m)) (finmap.entries_sorted m)
+sorted_entries m = held (is_sorted key_cmp (finmap.entries m)) (finmap.entries_sorted m)
 
 opened_written : (writes : List Write) (opened : Tables) → row_writes opened ≡ writes → (q : Key) → written q writes ≡ there (finmap.get opened q)
 opened_written writes opened e q =
@@ -161,7 +157,7 @@ module _ (script : Script) (settings : Settings) (events : List Event) (run : Is
       by : (o : Option (List ℕ)) → bytes_at script settings events q ≡ value_over o (bytes_at script settings [] q) → shown_over set o row ≡ row_shown set versions
       by None e =
           let same : opening_versions (written q (opening_writes script.catalog script.rows)) ≡ versions =
-          some_same (opening_versions (written q (opening_writes script.catalog script.rows))) versions (sym (opens.holds.cells q is).read ∙ ap read_cell (sym e) ∙ h) in
+          same_Some (opening_versions (written q (opening_writes script.catalog script.rows))) versions (sym (opens.holds.cells q is).read ∙ ap read_cell (sym e) ∙ h) in
           sym (opening_shown set zero_in row)
           ∙ ap (λ (o : Option (Option (List Value))). row_shown set (opening_versions o)) (sym opened)
           ∙ ap (row_shown set) same
@@ -187,7 +183,7 @@ final_tables script settings events cells set opened rows sorted last finished o
     e = ends script settings events run
 
     same : set ≡ e.w.commits.finished
-    same = some_same set e.w.commits.finished (sym finished ∙ set_is script settings events run e.w.commits.finished e.holds.commits)
+    same = same_Some set e.w.commits.finished (sym finished ∙ set_is script settings events run e.w.commits.finished e.holds.commits)
 
     written_is : (q : Key) → written q (opening_writes script.catalog script.rows) ≡ there (finmap.get opened q)
     written_is q = opened_written (opening_writes script.catalog script.rows) opened opening q

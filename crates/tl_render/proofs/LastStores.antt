@@ -24,8 +24,9 @@ use Rattle.tl_journal.specs.declared.event.Event.{Event}
 use Rattle.tl_journal.specs.Ask.{Ask, StoreCommits, StoreLog, StoreRecord}
 use Rattle.tl_journal.specs.Bytes.{place_of, shard_at, written}
 use Rattle.tl_journal.specs.Journal.{IsEvent, shard_call, shard_log}
-use Rattle.tl_journal.proofs.StoreLogs.{call_of, cell_in, cell_stored, cell_unmoved, log_grows}
+use Rattle.tl_journal.proofs.StoreLogs.{call_of, cell_in, cell_stored, cell_unmoved}
 use Rattle.tl_render.specs.Stored.{Stored, last_stored, stored_at, stored_by}
+use Rattle.tl_journal.proofs.Logs.{shard_more}
 
 -- the bytes that were stored over those that were there
 abbrev pub value_over : Option (List ℕ) → List ℕ → List ℕ
@@ -100,7 +101,7 @@ module _ (settings : Settings) (setup : Setup) where
           → (cell_in settings setup (past ++ e ∷ []) q).value ≡ value_over (stored_at q o) (cell_in settings setup past q).value
       by None none =
           let s : ℕ = shard_of_key q settings.shards in
-          ap (λ (log : List Call). (cell_at log q).value) (log_grows settings setup s past e)
+          ap (λ (log : List Call). (cell_at log q).value) (shard_more settings setup s past e)
           ∙ ap (λ (c : ShardCell). c.value) (log_unmoved (shard_log settings setup s past) s e.place e.request e.reply none q)
       by (Some s) is =
           let i = is_store e.request e.reply s is in

@@ -6,32 +6,28 @@ use Rattle.std.specs.FinMap as finmap
 use Rattle.std.specs.FinMap.Entries.{below_all, find, is_sorted}
 use Rattle.std.specs.Ordering.{is_eq, is_lt}
 use Rattle.std.proofs.lemmas.Bool.{and_parts}
+use Rattle.tl_lemmas.proofs.Orders.{less_differs}
 use Rattle.tl_values.specs.declared.value.Value.{Value}
 use Rattle.tl_versions.specs.Reading.{read_cell}
 use Rattle.tl_write.specs.Own.{key_cmp}
 use Rattle.tl_write.specs.Tables.{Tables}
 use Rattle.tl_descriptor.specs.Tids.{TidSet}
 use Rattle.tl_protocol.specs.Store.{Key, same_key}
-use Rattle.tl_protocol.proofs.Cells.{key_eq}
 use Rattle.tl_journal.specs.Served.{is_record_key}
 use Rattle.tl_render.specs.Stored.{Stored, put_row, row_in, with_cell, with_cells}
+use Rattle.tl_write.proofs.Keys.{key_eq}
 
 -- the row that the bytes show, or where nothing was stored the one that was there
 abbrev pub shown_over : TidSet → Option (List ℕ) → Option (List Value) → Option (List Value)
 shown_over set None row = row
 shown_over set (Some bytes) row = row_in set (read_cell bytes)
 
-not_equal : (o : Ordering) → is_lt o ≡ true → is_eq o ≡ false
-not_equal Less h = refl
-not_equal Equal h = absurd cc
-not_equal Greater h = absurd cc
-
 -- a key below all others isn't found among them
 pub none_below : {X : Type 0} (k : Key) (es : List (Key × X)) → below_all key_cmp k es ≡ true → find key_cmp k es ≡ None
 none_below k [] h = refl
 none_below k (e ∷ es) h =
     let parts = and_parts (is_lt (key_cmp k e.0)) (below_all key_cmp k es) h in
-    ap (λ (b : Bool). cond b (Some e.1) (find key_cmp k es)) (not_equal (key_cmp k e.0) parts.0) ∙ none_below k es parts.1
+    ap (λ (b : Bool). cond b (Some e.1) (find key_cmp k es)) (less_differs (key_cmp k e.0) parts.0) ∙ none_below k es parts.1
 
 get_put : (k : Key) (row : Option (List Value)) (rows : Tables) (q : Key) → finmap.get (put_row k row rows) q ≡ (if same_key q k then row else finmap.get rows q)
 get_put k None rows q = finmap.get-remove nat_list_cmp_total rows k q

@@ -8,8 +8,8 @@ use Rattle.std.specs.FinMap.Entries.{below_all, find, is_sorted}
 use Rattle.std.specs.Ordering.{is_lt}
 use Rattle.tl_write.specs.Own.{key_cmp}
 use Rattle.tl_protocol.specs.Store.{Key, last_of, same_key}
-use Rattle.tl_journal.proofs.StoreLogs.{same_key_turned}
 use Rattle.tl_render.specs.Stored.{Stored, stored_at}
+use Rattle.tl_write.proofs.Keys.{key_turned}
 
 none_before : (o : Option (List ℕ)) → last_of None o ≡ o
 none_before None = refl
@@ -29,7 +29,7 @@ put_in old new f k b is q =
     ap (λ (m : finmap.FinMap key_cmp _). option_map f (finmap.get m q)) is
     ∙ ap (option_map f) (finmap.get-insert nat_list_cmp_total old k b q)
     ∙ by (same_key q k)
-    ∙ ap (λ (c : Bool). last_of (option_map f (finmap.get old q)) (if c then Some (f b) else None)) (same_key_turned q k)
+    ∙ ap (λ (c : Bool). last_of (option_map f (finmap.get old q)) (if c then Some (f b) else None)) (key_turned q k)
   where
     by : (c : Bool) → option_map f (cond c (Some b) (finmap.get old q)) ≡ last_of (option_map f (finmap.get old q)) (if c then Some (f b) else None)
     by true = refl

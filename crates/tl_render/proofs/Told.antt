@@ -3,14 +3,11 @@ use Rattle.std.proofs.Common.{◌≡◌, ℕ, ◌+◌, suc, ◌<◌, List, ◌�
 use Rattle.std.specs.List.{flat_map, enumerate_from}
 use Rattle.std.proofs.lemmas.Grind.{flat_map-append}
 use Rattle.std.proofs.lemmas.List.Elements.{filter_map-append}
+use Rattle.tl_lemmas.proofs.Lists.{drop_read}
 use Rattle.tl_journal.specs.declared.event.Event.{Event}
 use Rattle.tl_isolation.specs.Script.{answer_at, answers_by}
 use Rattle.tl_journal.specs.Journal.{entries_told}
 use Rattle.tl_render.specs.Printed.{answer_text, ending_at, ending_text, endings_of}
-
--- the item at the front of what is left
-pub next_item : {X : Type 0} (xs : List X) (i : ℕ) (x : X) → i < length xs → x ≡ get_or xs i x → drop i xs ≡ x ∷ drop (i + 1) xs
-next_item xs i x below is = drop-cons xs i x below ∙ ap (λ (y : _). y ∷ drop (suc i) xs) (sym is) ∙ ap (λ (n : ℕ). x ∷ drop n xs) (sym (add-one i))
 
 -- what is written and the text of what is left stay the text of all
 pub writes_next : {X : Type 0} (f : X → List ℕ) (text : List X → List ℕ) → ((x : X) (xs : List X) → text (x ∷ xs) ≡ f x ++ text xs)
@@ -19,7 +16,7 @@ pub writes_next : {X : Type 0} (f : X → List ℕ) (text : List X → List ℕ)
 writes_next f text step out new whole xs i x below is wrote so_far =
     ap (λ (o : List ℕ). o ++ text (drop (i + 1) xs)) wrote
     ∙ append_assoc out (f x) (text (drop (i + 1) xs))
-    ∙ ap (λ (t : List ℕ). out ++ t) (sym (ap text (next_item xs i x below is) ∙ step x (drop (i + 1) xs)))
+    ∙ ap (λ (t : List ℕ). out ++ t) (sym (ap text (drop_read xs i x below is) ∙ step x (drop (i + 1) xs)))
     ∙ so_far
 
 -- the answers of one event, and those of the events after it
@@ -41,5 +38,5 @@ pub writes_numbered : {X : Type 0} (f : ℕ × X → List ℕ) (out new whole : 
 writes_numbered f out new whole xs i x below is wrote so_far =
     ap (λ (o : List ℕ). o ++ flat_map f (enumerate_from (i + 1) (drop (i + 1) xs))) wrote
     ∙ append_assoc out (f (i, x)) (flat_map f (enumerate_from (i + 1) (drop (i + 1) xs)))
-    ∙ ap (λ (ys : List _). out ++ flat_map f (enumerate_from i ys)) (sym (next_item xs i x below is))
+    ∙ ap (λ (ys : List _). out ++ flat_map f (enumerate_from i ys)) (sym (drop_read xs i x below is))
     ∙ so_far

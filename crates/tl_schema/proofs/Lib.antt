@@ -1,3 +1,3 @@
-pub mod EntryOrder
+mod EntryOrder
 pub mod Rows
-pub mod ValueReading
+mod ValueReading

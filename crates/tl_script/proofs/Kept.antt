@@ -2,9 +2,10 @@
 use Rattle.std.proofs.Common.{◌≡◌, ℕ, ◌+◌, ◌<◌, ◌≤◌, ◌^◌, ◌==◌, ◌||◌, Bool, true, false, cond, List, [], ◌∷◌, ◌++◌, Option, Some, None, Result, Ok, Err, length, length-append, refl, ap, subst, ◌∙◌, arith}
 use Rattle.std.specs.Prelude.{IfOk, codes, not}
 use Rattle.std.specs.List.{AllByRecursion, list_any, onto_first}
-use Rattle.std.proofs.lemmas.Bool.{or_parts}
+use Rattle.std.proofs.lemmas.Bool.{not-false, or_parts}
 use Rattle.std.specs.Option.{option_and_then}
 use Rattle.std.specs.Str.{bytes_eq}
+use Rattle.tl_lemmas.proofs.Lists.{all_append, weaker}
 use Rattle.tl_base.specs.declared.place.Settings.{Settings}
 use Rattle.tl_isolation.specs.declared.bound.Bound.{Bound}
 use Rattle.tl_isolation.specs.declared.script.Script.{Script}
@@ -12,7 +13,6 @@ use Rattle.tl_isolation.specs.declared.script.Session.{Session}
 use Rattle.tl_isolation.specs.declared.script.TurnItem.{TurnItem}
 use Rattle.tl_isolation.specs.declared.script.TurnItem.TheVariants.{One, Until}
 use Rattle.tl_isolation.specs.declared.script.Vanish.{Vanish}
-use Rattle.tl_isolation.proofs.Lookups.{weaker}
 use Rattle.tl_journal.specs.Binding.{EachOnce, IsBound, ItemFits, StatementFits, VanishFits, has_session}
 use Rattle.tl_journal.specs.Schedule.{node_of}
 use Rattle.tl_script.specs.declared.fault.ScriptError.{ScriptError}
@@ -52,10 +52,6 @@ pub record PartsFit (names : Names) (most : ℕ) (parts : Parts) : Type 0 where
 abbrev pub Stays : Names → ℕ → Option Parts → Type 0
 Stays names most None = Unit {0}
 Stays names most (Some parts) = PartsFit names most parts
-
-all_append : {X : Type 0} (P : X → Type 0) (xs ys : List X) → AllByRecursion P xs → AllByRecursion P ys → AllByRecursion P (xs ++ ys)
-all_append P [] ys h i = i
-all_append P (x ∷ xs) ys h i = (h.0, all_append P xs ys h.1 i)
 
 -- there is nothing amiss where they stand
 unless_known : (names : Names) (most : ℕ) (amiss : Bool) (parts : Parts) → (amiss ≡ false → PartsFit names most parts) → Stays names most (unless amiss parts)
@@ -135,10 +131,6 @@ more_keeps old s n h = any_push (λ (s : Session). s.node == n) old s h
 said_keeps : (b : Bound) (old : List Session) → Keeps old (said_last b old)
 said_keeps b old n h = said_any (λ m. m == n) b old ∙ h
 
-not_false : (b : Bool) → not b ≡ false → b ≡ true
-not_false true h = refl
-not_false false h = absurd (cc)
-
 item_fits : (sessions : List Session) (item : TurnItem) → IsInSchedule item → has_session sessions (node_of item) ≡ true → ItemFits sessions item
 item_fits sessions (One node times) r h = (h, r.from, r.to)
 item_fits sessions (Until node statement) r h = (h, r.from, r.to)
@@ -179,7 +171,7 @@ item_stays names most field parts f =
       statements = f.statements;
       keys = f.keys;
       turns = all_append (ItemFits parts.sessions) parts.turns (item ∷ []) f.turns
-          (item_fits parts.sessions item (item_range field item e) (not_false (has_session parts.sessions (node_of item)) known), tt);
+          (item_fits parts.sessions item (item_range field item e) (not-false (has_session parts.sessions (node_of item)) known), tt);
       counts = f.counts;
     }))
 
@@ -205,7 +197,7 @@ vanish_stays names most fields parts f =
       turns = f.turns;
       counts =
           let range = vanish_range fields v e in
-          let known = not_false (has_session parts.sessions v.node) (or_parts (not (has_session parts.sessions v.node)) (has_vanish v.node parts) new).0 in
+          let known = not-false (has_session parts.sessions v.node) (or_parts (not (has_session parts.sessions v.node)) (has_vanish v.node parts) new).0 in
           let fits : VanishFits parts.sessions v = record { session = known; least = range.from; most = range.to } in
           all_append (VanishFits parts.sessions) parts.vanishes (v ∷ []) f.counts (fits, tt);
     }))

@@ -1,12 +1,12 @@
-pub mod Blanks
-pub mod Bound
-pub mod Lines
-pub mod Digits
-pub mod Heads
-pub mod Items
-pub mod Kept
-pub mod Letters
-pub mod Openings
-pub mod Ranges
-pub mod Reading
-pub mod Sessions
+mod Blanks
+mod Bound
+mod Lines
+mod Digits
+mod Heads
+mod Items
+mod Kept
+mod Letters
+mod Openings
+mod Ranges
+mod Reading
+mod Sessions

@@ -6,6 +6,7 @@ use Rattle.std.specs.FinMap.Entries.{find, find-where_key}
 use Rattle.std.specs.List.{AllByRecursion}
 use Rattle.std.specs.Ordering.{is_eq}
 use Rattle.std.proofs.lemmas.Bool.{eq-eqb}
+use Rattle.tl_lemmas.proofs.Lists.{all_filter, all_map}
 use Rattle.tl_schema.specs.declared.catalog.Catalog.{Catalog}
 use Rattle.tl_schema.specs.declared.catalog.Table.{Table}
 use Rattle.tl_schema.specs.Record.{record_key}
@@ -29,8 +30,9 @@ use Rattle.tl_isolation.specs.Step.{keep_answer, own_after}
 use Rattle.tl_isolation.specs.Tables.{rows_in, table_of}
 use Rattle.tl_si.specs.Sound.{AreHome}
 use Rattle.tl_si.specs.Statements.{view, wants_memory}
-use Rattle.tl_si.proofs.Homes.{all_filter, all_map, listed, sorted}
+use Rattle.tl_si.proofs.Homes.{listed}
 use Rattle.tl_si.proofs.Laid.{Key, Row, equal_keys}
+use Rattle.tl_write.proofs.Keys.{sorted_entries}
 
 -- what is found is listed
 found_listed : (k : Key) (row : Row) (es : List (Key × Row)) → find key_cmp k es ≡ Some row → Contains (map (λ (e : Key × Row). e.1) es) row
@@ -62,7 +64,7 @@ module _ (catalog : Catalog) (number : ℕ) (whole : Tables) (home : AreHome cat
       (all_filter (λ (e : Key × Row). Has whole e.0 e.1) (λ (e : Key × Row). Has whole (record_key number table e.1) e.1) (λ (e : Key × Row). is_in number e.0)
       (λ e i h. subst (λ (k : Key). Has whole k e.1) (sym (home e.0 e.1 h number i)) h)
       (finmap.entries whole)
-      (listed (λ k row. Has whole k row) (finmap.entries whole) (sorted whole) (λ k row e. finmap.get-entries whole k ∙ e)))
+      (listed (λ k row. Has whole k row) (finmap.entries whole) (sorted_entries whole) (λ k row e. finmap.get-entries whole k ∙ e)))
 
   is_listed : (k : Key) (row : Row) → Has whole k row → is_in number k ≡ true → IsListed number table (rows_in number whole) k row
   is_listed k row h i = (

@@ -1,7 +1,9 @@
 -- What a commit and an undoing leave.
 use Rattle.std.proofs.Common.{◌≡◌, ℕ, ◌==◌, ◌&&◌, Bool, true, List, [], ◌∷◌, ◌++◌, Option, Some, None, sym, ap, subst, ◌∙◌}
 use Rattle.std.specs.Prelude.{remove, if◌then◌else◌}
-use Rattle.std.proofs.lemmas.Bool.{and_parts, eqb-true}
+use Rattle.std.proofs.lemmas.Bool.{and_from, and_parts, eqb-true}
+use Rattle.std.proofs.lemmas.Option.{same_Some}
+use Rattle.tl_lemmas.proofs.Lists.{passes}
 use Rattle.tl_write.specs.declared.write.Write.{Write}
 use Rattle.tl_isolation.specs.declared.entry.Answer.{Answer}
 use Rattle.tl_isolation.specs.declared.state.Commit.{Commit}
@@ -14,8 +16,6 @@ use Rattle.tl_si.specs.declared.state.State.{State}
 use Rattle.tl_si.specs.Ends.{ended}
 use Rattle.tl_si.specs.Shown.{IsOut, shown}
 use Rattle.tl_si.proofs.Alone.{without_out}
-use Rattle.tl_si.proofs.Find.{passes}
-use Rattle.tl_si.proofs.Logic.{both, some_same}
 
 module _ (tid : ℕ) (old mid : State) (at : ℕ) (t : Transaction) (out : IsOut (λ (t : Transaction). t.tid == tid) old at t mid) where
   its_number : t.tid ≡ tid
@@ -61,9 +61,9 @@ module _ (tid : ℕ) (old mid : State) (at : ℕ) (t : Transaction) (out : IsOut
 
   pub only_commit : (may : Bool) → ((s : SiState) → s.commits ≡ mid.commits → may ≡ (is_ready t && is_alone s t)) → IsHeld (shown old) tid (MayCommit (shown old)) → may ≡ true
   only_commit may h (x, e, k) =
-      let same : x ≡ t = some_same x t (sym e ∙ out.first) in
+      let same : x ≡ t = same_Some x t (sym e ∙ out.first) in
       h (shown old) (sym (ap (λ (s : SiState). s.commits) out.rest))
-      ∙ both (is_ready t) (is_alone (shown old) t) (subst (λ (y : Transaction). is_ready y ≡ true) same k.0) (subst (λ (y : Transaction). is_alone (shown old) y ≡ true) same k.1)
+      ∙ and_from (is_ready t) (is_alone (shown old) t) (subst (λ (y : Transaction). is_ready y ≡ true) same k.0) (subst (λ (y : Transaction). is_alone (shown old) y ≡ true) same k.1)
 
 -- a transaction more
 pub began_is : (s : SiState) (node tid first : ℕ) (begun : List ℕ) (held : List Transaction) (nodes : List NodeState) → begun ≡ s.begun ++ tid ∷ []

@@ -4,8 +4,8 @@ use Rattle.std.specs.Prelude.{find, nat_lt, position, remove, slice_get, slice_i
 use Rattle.std.specs.List.{position_or_len}
 use Rattle.std.proofs.lemmas.Bool.{ltb-true, ltb-false}
 use Rattle.std.proofs.lemmas.List.Folds.{find_at}
-use Rattle.std.proofs.lemmas.Option.{slice_get_past, slice_get_read}
-use Rattle.tl_si.proofs.Logic.{some_same}
+use Rattle.std.proofs.lemmas.Option.{same_Some, slice_get_past, slice_get_read}
+use Rattle.tl_lemmas.proofs.Lists.{passes}
 
 -- this is the place of the first that passes, if one does
 abbrev pub MaybePlace : {A : Type 0} → Option ℕ → (A → Bool) → List A → Type 0
@@ -34,13 +34,5 @@ none_at p xs e = subst (λ (o : Option ℕ). MaybePlace o p xs) (sym e) (positio
 pub others_kept : {A : Type 0} (p : A → Bool) (xs : List A) (at : ℕ) (x : A) → slice_get xs at ≡ Some x → p x ≡ true
     → filter (λ y. not (p y)) (remove xs at) ≡ filter (λ y. not (p y)) xs
 others_kept p [] at x e h = absurd cc
-others_kept p (y ∷ ys) zero x e h = sym (ap (λ (b : Bool). cond (not b) (y ∷ filter (λ z. not (p z)) ys) (filter (λ z. not (p z)) ys)) (subst (λ z. p z ≡ true) (sym (some_same y x e)) h))
+others_kept p (y ∷ ys) zero x e h = sym (ap (λ (b : Bool). cond (not b) (y ∷ filter (λ z. not (p z)) ys) (filter (λ z. not (p z)) ys)) (subst (λ z. p z ≡ true) (sym (same_Some y x e)) h))
 others_kept p (y ∷ ys) (suc at) x e h = ap (λ (zs : List _). cond (not (p y)) (y ∷ zs) zs) (others_kept p ys at x e h)
-
-pub passes : {A : Type 0} (p : A → Bool) (xs : List A) (x : A) → find p xs ≡ Some x → p x ≡ true
-passes p [] x e = absurd cc
-passes p (y ∷ ys) x e =
-    elim (p y) as (λ b. p y ≡ b → cond b (Some y) (find p ys) ≡ Some x → p x ≡ true) [
-      | true ↦ λ h e. subst (λ z. p z ≡ true) (some_same y x e) h
-      | false ↦ λ h e. passes p ys x e
-    ] refl e

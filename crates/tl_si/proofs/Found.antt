@@ -5,11 +5,12 @@ use Rattle.std.specs.FinMap as finmap
 use Rattle.std.specs.Prelude.{Option, Some, None, unwrap_or}
 use Rattle.std.specs.Cmp.Lexicographic.{nat_list_cmp_total}
 use Rattle.tl_write.specs.Own.{key_cmp}
-use Rattle.tl_si.proofs.Laid.{Key, same_turned, tie}
+use Rattle.tl_si.proofs.Laid.{Key}
 use Rattle.tl_write.specs.declared.write.Write.{Write}
 use Rattle.tl_isolation.specs.declared.state.Commit.{Commit}
 use Rattle.tl_si.specs.declared.past.Place.{Place}
 use Rattle.tl_si.specs.Places.{AreFound, HasMore, Records, places_from, places_in, places_of, same_key}
+use Rattle.tl_write.proofs.Keys.{key_eq, key_turned}
 
 pub places_push : (n : ℕ) (key : List ℕ) (cs : List Commit) (c : Commit)
     → places_from n key (cs ++ c ∷ []) ≡ places_from n key cs ++ places_in (n + length cs) 0 key c.writes
@@ -63,9 +64,9 @@ has_more records removed more key found place r f m k =
     ∙ ap (λ (o : Option (List Place)). unwrap_or (cond (same_key k key) (Some (found ++ place ∷ [])) o) [])
     (ap (λ (x : Records). finmap.get x k) r ∙ finmap.get-remove nat_list_cmp_total records key k)
     ∙ by (same_key k key) refl
-    ∙ ap (λ (b : Bool). places_of records k ++ cond b (place ∷ []) []) (same_turned k key)
+    ∙ ap (λ (b : Bool). places_of records k ++ cond b (place ∷ []) []) (key_turned k key)
   where
     by : (b : Bool) → same_key k key ≡ b
         → unwrap_or (cond b (Some (found ++ place ∷ [])) (cond b None (finmap.get records k))) [] ≡ places_of records k ++ cond b (place ∷ []) []
-    by true e = ap (λ (ps : List Place). ps ++ place ∷ []) (f ∙ ap (places_of records) (sym (tie k key e)))
+    by true e = ap (λ (ps : List Place). ps ++ place ∷ []) (f ∙ ap (places_of records) (sym (key_eq k key e)))
     by false e = sym (append-nil (places_of records k))

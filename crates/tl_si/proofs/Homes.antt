@@ -10,7 +10,8 @@ use Rattle.std.specs.List.{list_any, AllByRecursion}
 use Rattle.std.specs.Ordering.{is_eq, match_ordering}
 use Rattle.std.proofs.lemmas.Bool.{and_parts, both_ways, eqb-true, eq-eqb, not-true, or_parts}
 use Rattle.std.proofs.lemmas.List.{get_or-set_other}
-use Rattle.std.proofs.lemmas.Option.{option_and_then_some}
+use Rattle.std.proofs.lemmas.Option.{option_and_then_some, same_Some}
+use Rattle.tl_lemmas.proofs.Lists.{all_filter, all_map, all_of}
 use Rattle.tl_values.specs.declared.value.Value.{Value}
 use Rattle.tl_values.specs.declared.value.Value.TheVariants as value
 use Rattle.tl_values.specs.Value.{values_at}
@@ -34,8 +35,8 @@ use Rattle.tl_isolation.specs.Meaning.{change_of}
 use Rattle.tl_isolation.specs.State.{tables_from}
 use Rattle.tl_isolation.specs.Tables.{keeps_key, opening_writes, table_of}
 use Rattle.tl_si.specs.Sound.{AreHome, AreHomeWrites, IsHome, IsHomeWrite}
-use Rattle.tl_si.proofs.Laid.{Key, Row, get_laid, over, tie, written}
-use Rattle.tl_si.proofs.Logic.{none_below, some_same}
+use Rattle.tl_si.proofs.Laid.{Key, Row, get_laid, over, written}
+use Rattle.tl_write.proofs.Keys.{key_eq, none_below, sorted_entries}
 
 -- what a change needs: SET leaves the columns of the primary key
 abbrev pub Keeps : Catalog → Edit → Type 0
@@ -53,7 +54,7 @@ module _ (catalog : Catalog) where
       ap (λ (n : ℕ). record_key n (table_of catalog n) row) (sym (in_table m number (values_at (table_of catalog number).key row) e))
 
   row_home : (key : Key) (row : Row) → IsHome catalog key row → IsHomeWrite catalog (record { key = key; row = Some row })
-  row_home key row h r e = subst (λ (x : Row). IsHome catalog key x) (some_same row r e) h
+  row_home key row h r e = subst (λ (x : Row). IsHome catalog key x) (same_Some row r e) h
 
   none_home : (key : Key) → IsHomeWrite catalog (record { key = key; row = None })
   none_home key r e = absurd cc
@@ -88,7 +89,7 @@ module _ (catalog : Catalog) where
   written_home key (w ∷ ws) h row e = later (written key ws) refl (λ e. written_home key ws h.1 row e) e
     where
       here : (b : Bool) → is_eq (key_cmp w.key key) ≡ b → cond b (Some w.row) None ≡ Some (Some row) → IsHome catalog key row
-      here true t e = subst (λ (k : Key). IsHome catalog k row) (tie w.key key t) (h.0 row (some_same w.row (Some row) e))
+      here true t e = subst (λ (k : Key). IsHome catalog k row) (key_eq w.key key t) (h.0 row (same_Some w.row (Some row) e))
       here false t e = absurd cc
 
       later : (o : Option (Option Row)) → written key ws ≡ o → (written key ws ≡ Some (Some row) → IsHome catalog key row)
@@ -126,36 +127,13 @@ listed P (e ∷ es) s h =
     later k row i below =
         elim (is_eq (key_cmp k e.0)) as (λ b. is_eq (key_cmp k e.0) ≡ b → cond b (Some e.1) (find key_cmp k es) ≡ Some row) [
           | true ↦ λ t.
-              let none : find key_cmp k es ≡ None = ap (λ (l : Key). find key_cmp l es) (tie k e.0 t) ∙ none_below e.0 es below in
+              let none : find key_cmp k es ≡ None = ap (λ (l : Key). find key_cmp l es) (key_eq k e.0 t) ∙ none_below e.0 es below in
               absurd (no_row (sym none ∙ i))
           | false ↦ λ t. i
         ] refl
       where
         no_row : ◌≡◌ {A = Option Row} None (Some row) → ⊥
         no_row e = cc
-
-pub sorted : (tables : Tables) → is_sorted key_cmp (finmap.entries tables) ≡ true
-sorted tables = true_if (is_sorted key_cmp (finmap.entries tables)) (finmap.entries_sorted tables)
-  where
-    true_if : (b : Bool) → T b → b ≡ true
-    true_if true h = refl
-    true_if false h = absurd h
-
-pub all_filter : {X : Type 0} (P Q : X → Type 0) (q : X → Bool) → ((x : X) → q x ≡ true → P x → Q x) → (xs : List X) → AllByRecursion P xs → AllByRecursion Q (filter q xs)
-all_filter P Q q f [] h = tt
-all_filter P Q q f (x ∷ xs) h =
-    elim (q x) as (λ b. q x ≡ b → AllByRecursion Q (cond b (x ∷ filter q xs) (filter q xs))) [
-      | true ↦ λ e. (f x e h.0, all_filter P Q q f xs h.1)
-      | false ↦ λ e. all_filter P Q q f xs h.1
-    ] refl
-
-pub all_map : {X Y : Type 0} (P : X → Type 0) (Q : Y → Type 0) (f : X → Y) → ((x : X) → P x → Q (f x)) → (xs : List X) → AllByRecursion P xs → AllByRecursion Q (map f xs)
-all_map P Q f g [] h = tt
-all_map P Q f g (x ∷ xs) h = (g x h.0, all_map P Q f g xs h.1)
-
-all_so : {X : Type 0} (P : X → Type 0) → ((x : X) → P x) → (xs : List X) → AllByRecursion P xs
-all_so P f [] = tt
-all_so P f (x ∷ xs) = (f x, all_so P f xs)
 
 -- SET of another column leaves the values of the key
 one_column : (key : List ℕ) (values : Row) (column : ℕ) (v : Value) → list_any (λ (place : ℕ). place == column) key ≡ false
@@ -168,7 +146,7 @@ one_column (place ∷ key) values column v h =
 columns_kept : (key : List ℕ) (sets : List SetColumn) (old new row : Row)
     → list_any (λ (set : SetColumn). list_any (λ (place : ℕ). place == set.column) key) sets ≡ false → set_columns sets old new ≡ Some row
     → values_at key row ≡ values_at key new
-columns_kept key [] old new row h e = ap (values_at key) (sym (some_same new row e))
+columns_kept key [] old new row h e = ap (values_at key) (sym (same_Some new row e))
 columns_kept key (s ∷ ss) old new row h e =
     let parts = or_parts (list_any (λ (place : ℕ). place == s.column) key) (list_any (λ (set : SetColumn). list_any (λ (place : ℕ). place == set.column) key) ss) h in
     option_and_then_some (λ (v : Value). set_columns ss old (slice_set new s.column v)) (value_of s.value old) row e
@@ -191,7 +169,7 @@ module _ (catalog : Catalog) (number : ℕ) where
       all_filter IsHomeIn IsHomeIn (λ (e : Key × Row). lets_through condition e.1) (λ e i j. j) (records_in number tables)
       (all_filter (λ (e : Key × Row). IsHome catalog e.0 e.1) IsHomeIn (λ (e : Key × Row). is_in number e.0) (λ e i j. (j, i))
       (finmap.entries tables)
-      (listed (IsHome catalog) (finmap.entries tables) (sorted tables) (λ k row e. h k row (finmap.get-entries tables k ∙ e))))
+      (listed (IsHome catalog) (finmap.entries tables) (sorted_entries tables) (λ k row e. h k row (finmap.get-entries tables k ∙ e))))
 
   -- the new row has the key of the old one
   replaced_home : (e : Key × Row) (changed : Option Row) → IsHomeIn e
@@ -208,7 +186,7 @@ edit_home : (catalog : Catalog) (edit : Edit) (tables : Tables) → AreHome cata
     → AllByRecursion (IsHomeDeed catalog) (deeds edit (table_of catalog (number_of edit)) tables)
 edit_home catalog (Insert number rows) tables h k =
     all_map (λ (row : Row). Unit {0}) (IsHomeDeed catalog) (λ (row : Row). Add (record_key number (table_of catalog number) row) row) (λ row u. key_home catalog number row)
-    rows (all_so (λ (row : Row). Unit {0}) (λ row. tt) rows)
+    rows (all_of (λ (row : Row). Unit {0}) (λ row. tt) rows)
 edit_home catalog (Update number sets condition) tables h k =
     let key : List ℕ = (table_of catalog number).key in
     let apart = not-true (list_any (λ (set : SetColumn). list_any (λ (place : ℕ). place == set.column) key) sets) k in
@@ -217,7 +195,7 @@ edit_home catalog (Update number sets condition) tables h k =
     (matching number condition tables) (matching_home catalog number condition tables h)
 edit_home catalog (Delete number condition) tables h k =
     all_map (λ (e : Key × Row). Unit {0}) (IsHomeDeed catalog) (λ (e : Key × Row). Remove e.0) (λ e u. tt)
-    (matching number condition tables) (all_so (λ (e : Key × Row). Unit {0}) (λ e. tt) (matching number condition tables))
+    (matching number condition tables) (all_of (λ (e : Key × Row). Unit {0}) (λ e. tt) (matching number condition tables))
 
 after_home : (catalog : Catalog) (deed : Deed) (done : Effect) → IsHomeDeed catalog deed → AreHomeWrites catalog done.writes
     → AreHomeWrites catalog (after deed done).writes

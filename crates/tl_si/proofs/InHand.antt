@@ -2,17 +2,11 @@
 use Rattle.std.proofs.Common.{◌≡◌, ℕ, ◌==◌, not, List, [], ◌∷◌, ◌++◌, Option, Some, None, filter, refl, sym, ap, subst, ◌∙◌}
 use Rattle.std.specs.Prelude.{find, unwrap_or, if◌then◌else◌}
 use Rattle.std.proofs.lemmas.Bool.{eqb-true}
+use Rattle.tl_lemmas.proofs.Lists.{passes}
 use Rattle.tl_isolation.specs.declared.entry.Answer.{Answer}
 use Rattle.tl_isolation.specs.declared.state.NodeState.{NodeState}
 use Rattle.tl_isolation.specs.State.{idle, is_idle, node_of, put_node}
-use Rattle.tl_si.proofs.Find.{passes}
-
-node_at : (node : ℕ) (nodes : List NodeState) → (node_of node nodes).node ≡ node
-node_at node nodes = by (find (λ s. s.node == node) nodes) refl
-  where
-    by : (o : Option NodeState) → find (λ s. s.node == node) nodes ≡ o → (unwrap_or o (idle node)).node ≡ node
-    by None e = refl
-    by (Some s) e = eqb-true s.node node (passes (λ s. s.node == node) nodes s e)
+use Rattle.tl_isolation.proofs.Known.{node_at}
 
 abbrev AreOthers : ℕ → List NodeState → List NodeState → Type 0
 AreOthers node left nodes = filter (λ o. not (o.node == node)) left ≡ filter (λ o. not (o.node == node)) nodes

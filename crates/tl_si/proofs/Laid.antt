@@ -5,11 +5,13 @@ use Rattle.std.specs.FinMap as finmap
 use Rattle.std.specs.FinMap.{nat_cmp-IsAntisymmetric, slice_cmp-IsAntisymmetric}
 use Rattle.std.specs.Cmp.Lexicographic.{nat_list_cmp_total}
 use Rattle.std.specs.Ordering.{is_eq, ordering_reverse}
+use Rattle.tl_lemmas.proofs.Orders.{equal_turned}
 use Rattle.tl_values.specs.declared.value.Value.{Value}
 use Rattle.tl_write.specs.declared.write.Write.{Write}
 use Rattle.tl_write.specs.Own.{key_cmp}
 use Rattle.tl_write.specs.Tables.{Tables, laid_over, laid_write}
 use Rattle.tl_si.specs.Places.{same_key}
+use Rattle.tl_write.proofs.Keys.{key_eq, key_turned}
 
 abbrev pub Row : Type 0
 Row = List Value
@@ -17,25 +19,8 @@ Row = List Value
 abbrev pub Key : Type 0
 Key = List ℕ
 
--- keys that tie are one
-pub tie : (k l : Key) → same_key k l ≡ true → k ≡ l
-tie k l h = slice_cmp-IsAntisymmetric nat_cmp-IsAntisymmetric k l (equal (key_cmp k l) h)
-  where
-    equal : (o : Ordering) → is_eq o ≡ true → o ≡ Equal
-    equal Less h = absurd cc
-    equal Equal h = refl
-    equal Greater h = absurd cc
-
 pub equal_keys : finmap.IsAntisymmetric key_cmp
 equal_keys = slice_cmp-IsAntisymmetric nat_cmp-IsAntisymmetric
-
-eq_turned : (o : Ordering) → is_eq (ordering_reverse o) ≡ is_eq o
-eq_turned Less = refl
-eq_turned Equal = refl
-eq_turned Greater = refl
-
-pub same_turned : (k l : Key) → same_key k l ≡ same_key l k
-same_turned k l = ap is_eq (nat_list_cmp_total.antisymm k l) ∙ eq_turned (key_cmp l k)
 
 -- the row, or its deletion, that these writes leave at the key, if one of them is of it
 abbrev pub written : Key → List Write → Option (Option Row)
@@ -50,9 +35,9 @@ over (Some row) below = row
 laid_one : (tables : Tables) (k : Key) (row : Option Row) (q : Key)
     → finmap.get (laid_write tables (record { key = k; row = row })) q ≡ cond (same_key k q) row (finmap.get tables q)
 laid_one tables k None q =
-    finmap.get-remove nat_list_cmp_total tables k q ∙ ap (λ (b : Bool). cond b None (finmap.get tables q)) (same_turned q k)
+    finmap.get-remove nat_list_cmp_total tables k q ∙ ap (λ (b : Bool). cond b None (finmap.get tables q)) (key_turned q k)
 laid_one tables k (Some row) q =
-    finmap.get-insert nat_list_cmp_total tables k row q ∙ ap (λ (b : Bool). cond b (Some row) (finmap.get tables q)) (same_turned q k)
+    finmap.get-insert nat_list_cmp_total tables k row q ∙ ap (λ (b : Bool). cond b (Some row) (finmap.get tables q)) (key_turned q k)
 
 over_last : (b : Bool) (row below : Option Row) (later : Option (Option Row))
     → over later (cond b row below) ≡ over (option_or later (cond b (Some row) None)) below

@@ -10,7 +10,8 @@ use Rattle.tl_write.specs.Own.{key_cmp}
 use Rattle.tl_write.specs.Tables.{Tables, is_in, laid_over, records_in, writes_in}
 use Rattle.tl_isolation.specs.Tables.{rows_in}
 use Rattle.tl_si.specs.Places.{same_key}
-use Rattle.tl_si.proofs.Laid.{Key, Row, equal_keys, get_laid, over, tie, written}
+use Rattle.tl_si.proofs.Laid.{Key, Row, equal_keys, get_laid, over, written}
+use Rattle.tl_write.proofs.Keys.{key_eq}
 
 -- what a write leaves at a key, and those after it
 abbrev with_first : Bool → Write → Option (Option Row) → Option (Option Row)
@@ -40,7 +41,7 @@ module _ (number : ℕ) where
           → written k (cond b (w ∷ writes_in number ws) (writes_in number ws)) ≡ with_first (same_key w.key k) w (written k ws)
       one true e later = ap (with_first (same_key w.key k) w) later
       one false e later =
-          later ∙ sym (unwritten w (written k ws) (same_key w.key k) (false_from_ne_true (same_key w.key k) (λ f. apart k w.key i e (sym (tie w.key k f)))))
+          later ∙ sym (unwritten w (written k ws) (same_key w.key k) (false_from_ne_true (same_key w.key k) (λ f. apart k w.key i e (sym (key_eq w.key k f)))))
 
   -- at another key
   written_out : (k : Key) (ws : List Write) → is_in number k ≡ false → written k (writes_in number ws) ≡ None
@@ -50,7 +51,7 @@ module _ (number : ℕ) where
       one : (b : Bool) → is_in number w.key ≡ b → written k (writes_in number ws) ≡ None
           → written k (cond b (w ∷ writes_in number ws) (writes_in number ws)) ≡ None
       one true e later =
-          unwritten w (written k (writes_in number ws)) (same_key w.key k) (false_from_ne_true (same_key w.key k) (λ f. apart w.key k e o (tie w.key k f))) ∙ later
+          unwritten w (written k (writes_in number ws)) (same_key w.key k) (false_from_ne_true (same_key w.key k) (λ f. apart w.key k e o (key_eq w.key k f))) ∙ later
       one false e later = later
 
   module _ (tables : Tables) (own : List Write) where

@@ -1,18 +1,18 @@
-pub mod Logic
-pub mod Ties
-pub mod Find
-pub mod InHand
-pub mod Same
-pub mod Laid
-pub mod Found
-pub mod Rows
-pub mod Table
-pub mod Laying
-pub mod Homes
-pub mod Stays
-pub mod Alone
-pub mod Sayings
-pub mod Endings
-pub mod Queries
-pub mod Changes
-pub mod Entries
+mod Logic
+mod Ties
+mod Find
+mod InHand
+mod Same
+mod Laid
+mod Found
+mod Rows
+mod Table
+mod Laying
+mod Homes
+mod Stays
+mod Alone
+mod Sayings
+mod Endings
+mod Queries
+mod Changes
+mod Entries

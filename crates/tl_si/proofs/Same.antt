@@ -5,6 +5,7 @@ use Rattle.std.specs.Cmp.Lexicographic.{slice_cmp}
 use Rattle.std.specs.FinMap.{slice_cmp-IsAntisymmetric}
 use Rattle.std.specs.Ordering.{is_eq, ordering_then}
 use Rattle.std.proofs.lemmas.Bool.{eqb-true, eq-eqb}
+use Rattle.tl_lemmas.proofs.Orders.{equal_is}
 use Rattle.tl_values.specs.declared.value.Value.{Value}
 use Rattle.tl_values.specs.Value.{row_cmp}
 use Rattle.tl_values.proofs.ValueOrder.{row_exact, row_total}
@@ -12,13 +13,8 @@ use Rattle.tl_isolation.specs.declared.entry.Answer.{Answer}
 use Rattle.tl_isolation.specs.declared.entry.Answer.TheVariants as answer
 use Rattle.tl_si.specs.Answers.{is_begun, is_committed, is_duplicate, is_long, is_many, is_nested, is_null, is_outside, is_overflow, is_rolled_back, same_answer, same_rows, tells_count, tells_recovered, tells_rival, tells_rows, tells_there}
 
-equal : (o : Ordering) → is_eq o ≡ true → o ≡ Equal
-equal Less h = absurd cc
-equal Equal h = refl
-equal Greater h = absurd cc
-
 pub rows_same : (a b : List (List Value)) → same_rows a b ≡ true → a ≡ b
-rows_same a b h = slice_cmp-IsAntisymmetric row_exact a b (equal (slice_cmp row_cmp a b) h)
+rows_same a b h = slice_cmp-IsAntisymmetric row_exact a b (equal_is (slice_cmp row_cmp a b) h)
 
 same_row_itself : (o : Ordering) → o ≡ Equal → is_eq o ≡ true
 same_row_itself o e = ap is_eq e

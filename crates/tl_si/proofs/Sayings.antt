@@ -1,7 +1,9 @@
 -- What may be said of statements that read no table.
 use Rattle.std.proofs.Common.{◌≡◌, ℕ, ◌==◌, Bool, true, false, not, ◌&&◌, ◌||◌, Option, Some, None, refl, sym, subst, ◌∙◌}
 use Rattle.std.specs.List.{list_any}
-use Rattle.std.proofs.lemmas.Bool.{eqb-true, eq-eqb}
+use Rattle.std.proofs.lemmas.Bool.{and_from, eq-eqb, eqb-true, or_left}
+use Rattle.std.proofs.lemmas.Option.{same_Some}
+use Rattle.tl_lemmas.proofs.Tests.{and_first, and_second}
 use Rattle.tl_schema.specs.declared.catalog.Catalog.{Catalog}
 use Rattle.tl_isolation.specs.declared.bound.Bound.TheVariants as bound
 use Rattle.tl_isolation.specs.declared.entry.Answer.{Answer}
@@ -11,15 +13,10 @@ use Rattle.tl_isolation.specs.declared.state.Transaction.{Transaction}
 use Rattle.tl_isolation.specs.State.{held_by, is_fresh, is_lost, is_open}
 use Rattle.tl_isolation.specs.Step.{MaySay}
 use Rattle.tl_si.specs.Statements.{may_answer_begin, may_answer_recover}
-use Rattle.tl_si.proofs.Logic.{both, left, right, some_same}
 
 or_false : (a : Bool) → (a || false) ≡ true → a ≡ true
 or_false true h = refl
 or_false false h = absurd cc
-
-from_left : (a b : Bool) → a ≡ true → (a || b) ≡ true
-from_left true b e = refl
-from_left false b e = absurd cc
 
 module _ (catalog : Catalog) (s : SiState) (node : ℕ) (answered : Bool) where
   pub begin_may : (t : Transaction) → held_by node s.held ≡ Some t → answered ≡ true → (told : Answer) → may_answer_begin t told ≡ true
@@ -30,8 +27,8 @@ module _ (catalog : Catalog) (s : SiState) (node : ℕ) (answered : Bool) where
 
   pub begin_only : (t : Transaction) → held_by node s.held ≡ Some t → (told : Answer) → MaySay catalog s node bound.Begin told answered
       → (answered ≡ true) × (may_answer_begin t told ≡ true)
-  begin_only t e answer.Begun (a, (u, f, h)) = (a, subst (λ (x : Transaction). is_fresh x ≡ true) (some_same u t (sym f ∙ e)) h)
-  begin_only t e answer.Nested (a, (u, f, h)) = (a, subst (λ (x : Transaction). is_open x ≡ true) (some_same u t (sym f ∙ e)) h)
+  begin_only t e answer.Begun (a, (u, f, h)) = (a, subst (λ (x : Transaction). is_fresh x ≡ true) (same_Some u t (sym f ∙ e)) h)
+  begin_only t e answer.Nested (a, (u, f, h)) = (a, subst (λ (x : Transaction). is_open x ≡ true) (same_Some u t (sym f ∙ e)) h)
   begin_only t e told h = absurd h
 
   pub begin_none : held_by node s.held ≡ None → (told : Answer) → MaySay catalog s node bound.Begin told answered → ⊥
@@ -53,7 +50,7 @@ module _ (catalog : Catalog) (s : SiState) (node : ℕ) (answered : Bool) where
         → MaySay catalog s node (bound.Recover gone) told answered
     recover_may_by (Some t) e a answer.Nested h = (a, (t, e, h))
     recover_may_by (Some t) e a told h = absurd cc
-    recover_may_by None e a (answer.Recovered told) h = (a, eqb-true told gone (left (told == gone) (not lost) h), e, right (told == gone) (not lost) h)
+    recover_may_by None e a (answer.Recovered told) h = (a, eqb-true told gone (and_first (told == gone) (not lost) h), e, and_second (told == gone) (not lost) h)
     recover_may_by None e a (answer.There told) h = (a, eqb-true told gone (or_false (told == gone) h), e)
     recover_may_by None e a told h = absurd cc
 
@@ -66,11 +63,11 @@ module _ (catalog : Catalog) (s : SiState) (node : ℕ) (answered : Bool) where
 
     recover_only_by : (o : Option Transaction) → held_by node s.held ≡ o → (told : Answer) → MaySay catalog s node (bound.Recover gone) told answered
         → (answered ≡ true) × (may_answer_recover o lost gone told ≡ true)
-    recover_only_by (Some t) e answer.Nested (a, (u, f, h)) = (a, subst (λ (x : Transaction). is_open x ≡ true) (some_same u t (sym f ∙ e)) h)
+    recover_only_by (Some t) e answer.Nested (a, (u, f, h)) = (a, subst (λ (x : Transaction). is_open x ≡ true) (same_Some u t (sym f ∙ e)) h)
     recover_only_by None e answer.Nested (a, (u, f, h)) = absurd (some_none u (sym f ∙ e))
-    recover_only_by None e (answer.Recovered told) (a, p, f, q) = (a, both (told == gone) (not lost) (eq-eqb told gone p) q)
+    recover_only_by None e (answer.Recovered told) (a, p, f, q) = (a, and_from (told == gone) (not lost) (eq-eqb told gone p) q)
     recover_only_by (Some t) e (answer.Recovered told) (a, p, f, q) = absurd (some_none t (sym e ∙ f))
-    recover_only_by None e (answer.There told) (a, p, f) = (a, from_left (told == gone) false (eq-eqb told gone p))
+    recover_only_by None e (answer.There told) (a, p, f) = (a, or_left (told == gone) false (eq-eqb told gone p))
     recover_only_by (Some t) e (answer.There told) (a, p, f) = absurd (some_none t (sym e ∙ f))
     recover_only_by o e told h = absurd h
 

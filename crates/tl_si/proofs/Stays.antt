@@ -2,8 +2,11 @@
 use Rattle.std.proofs.Common.{◌≡◌, ℕ, zero, suc, ◌==◌, Bool, true, false, not, ◌||◌, cond, List, [], ◌∷◌, ◌++◌, Option, Some, None, Result, Ok, Err, map, filter, find, take, refl, sym, ap, subst, ◌∙◌}
 use Rattle.std.specs.Prelude.{if◌then◌else◌}
 use Rattle.std.specs.List.{list_any, AllByRecursion}
-use Rattle.std.proofs.lemmas.Bool.{eqb-true, eq-eqb}
+use Rattle.std.proofs.lemmas.Bool.{both_ways, eq-eqb, eqb-true}
 use Rattle.std.proofs.lemmas.List.Folds.{list_any-append}
+use Rattle.std.proofs.lemmas.Option.{same_Some}
+use Rattle.tl_lemmas.proofs.Lists.{all_filter, all_map, all_push, found, weaker}
+use Rattle.tl_lemmas.proofs.Tests.{or_second}
 use Rattle.tl_schema.specs.declared.catalog.Catalog.{Catalog}
 use Rattle.tl_schema.specs.declared.catalog.Setup.{Setup}
 use Rattle.tl_algebra.specs.declared.edit.Edit.{Edit}
@@ -22,31 +25,14 @@ use Rattle.tl_isolation.specs.declared.state.Transaction.{Transaction}
 use Rattle.tl_isolation.specs.State.{held_as, held_by, is_fresh, is_lost, opening_state, tables_after, view_of, without_held}
 use Rattle.tl_isolation.specs.Step.{Allowed, after, begin, commit, commit_answer, effect_on, end_with, forget_note, keep_answer, lose, meet_rival, open_by_begin, own_after, take_statement, try_commit, undo, undo_answer, with_held}
 use Rattle.tl_si.specs.Sound.{AreDistinct, AreHomeWrites, IsSound, keeps_key, statement_keeps, tids}
-use Rattle.tl_si.proofs.Homes.{Keeps, all_filter, all_map, change_home, empty_home, laid_home, opening_home, puts_home, tables_home}
-use Rattle.tl_si.proofs.Logic.{never, second_false, some_same}
-
--- lists
-pub found : {X : Type 0} (P : X → Type 0) (p : X → Bool) (xs : List X) (x : X) → AllByRecursion P xs → find p xs ≡ Some x → P x
-found P p [] x h e = absurd cc
-found P p (y ∷ ys) x h e =
-    elim (p y) as (λ b. cond b (Some y) (find p ys) ≡ Some x → P x) [
-      | true ↦ λ e. subst P (some_same y x e) h.0
-      | false ↦ λ e. found P p ys x h.1 e
-    ] e
-
-all_push : {X : Type 0} (P : X → Type 0) (xs : List X) (y : X) → AllByRecursion P xs → P y → AllByRecursion P (xs ++ y ∷ [])
-all_push P [] y h p = (p, tt)
-all_push P (x ∷ xs) y h p = (h.0, all_push P xs y h.1 p)
+use Rattle.tl_si.proofs.Homes.{Keeps, change_home, empty_home, laid_home, opening_home, puts_home, tables_home}
+use Rattle.tl_isolation.proofs.Known.{lose_tid, put_tid}
 
 all_take : {X : Type 0} (P : X → Type 0) (n : ℕ) (xs : List X) → AllByRecursion P xs → AllByRecursion P (take n xs)
 all_take P zero [] h = tt
 all_take P (suc n) [] h = tt
 all_take P zero (x ∷ xs) h = tt
 all_take P (suc n) (x ∷ xs) h = (h.0, all_take P n xs h.1)
-
-weaker : {X : Type 0} (P Q : X → Type 0) → ((x : X) → P x → Q x) → (xs : List X) → AllByRecursion P xs → AllByRecursion Q xs
-weaker P Q f [] h = tt
-weaker P Q f (x ∷ xs) h = (f x h.0, weaker P Q f xs h.1)
 
 -- numbers
 
@@ -58,7 +44,7 @@ other : (begun : List ℕ) (m n : ℕ) → list_any (λ b. b == m) begun ≡ tru
 other begun m n i o = by (n == m) refl
   where
     by : (b : Bool) → (n == m) ≡ b → (n == m) ≡ false
-    by true e = absurd (never (list_any (λ b. b == m) begun) (ap (λ (k : ℕ). list_any (λ b. b == k) begun) (sym (eqb-true n m e)) ∙ o) i)
+    by true e = absurd (both_ways (list_any (λ b. b == m) begun) (ap (λ (k : ℕ). list_any (λ b. b == k) begun) (sym (eqb-true n m e)) ∙ o) i)
     by false e = e
 
 distinct_push : (begun ns : List ℕ) (n : ℕ) → AreDistinct ns → AllByRecursion (λ m. list_any (λ b. b == m) begun ≡ true) ns → list_any (λ b. b == n) begun ≡ false
@@ -95,7 +81,7 @@ filter_any p n [] h = refl
 filter_any p n (m ∷ ns) h =
     elim (p m) as (λ b. list_any (λ k. k == n) (cond b (m ∷ filter p ns) (filter p ns)) ≡ false) [
       | true ↦ both (m == n) (list_any (λ k. k == n) ns) (list_any (λ k. k == n) (filter p ns)) h (filter_any p n ns)
-      | false ↦ filter_any p n ns (second_false (m == n) (list_any (λ k. k == n) ns) h)
+      | false ↦ filter_any p n ns (or_second (m == n) (list_any (λ k. k == n) ns) h)
     ]
   where
     both : (a b c : Bool) → (a || b) ≡ false → (b ≡ false → c ≡ false) → (a || c) ≡ false
@@ -122,24 +108,10 @@ map_tids : (f : Transaction → Transaction) → ((t : Transaction) → (f t).ti
 map_tids f k [] = refl
 map_tids f k (t ∷ held) = λ i. k t i ∷ map_tids f k held i
 
-put_tid : (t h : Transaction) → (if h.tid == t.tid then t else h).tid ≡ h.tid
-put_tid t h = by (h.tid == t.tid) refl
-  where
-    by : (b : Bool) → (h.tid == t.tid) ≡ b → (if b then t else h).tid ≡ h.tid
-    by true e = sym (eqb-true h.tid t.tid e)
-    by false e = refl
-
 pub opened_tid : (t : Transaction) → (open_by_begin t).tid ≡ t.tid
 opened_tid t = by (is_fresh t)
   where
     by : (b : Bool) → (if b then record t { opened = true } else t).tid ≡ t.tid
-    by true = refl
-    by false = refl
-
-lose_tid : (node : ℕ) (t : Transaction) → (lose node t).tid ≡ t.tid
-lose_tid node t = by (t.node == node)
-  where
-    by : (b : Bool) → (if b then record t { phase = Rattle.tl_isolation.specs.declared.state.TxnPhase.TheVariants.Lost } else t).tid ≡ t.tid
     by true = refl
     by false = refl
 

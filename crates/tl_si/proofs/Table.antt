@@ -6,16 +6,17 @@ use Rattle.std.specs.FinMap.Entries.{below_all, find, find-where_key, is_sorted,
 use Rattle.std.specs.Cmp.Lexicographic.{nat_list_cmp_total}
 use Rattle.std.specs.Cmp.{nat_cmp_is, nat_cmp_total, tied_itself}
 use Rattle.std.specs.Ordering.{is_le, is_lt, nat_cmp, ordering_then}
-use Rattle.std.proofs.lemmas.Bool.{and_parts, eqb-true}
+use Rattle.std.proofs.lemmas.Bool.{and_from, and_parts, eqb-true}
+use Rattle.tl_lemmas.proofs.Tests.{held}
 use Rattle.tl_write.specs.Own.{key_cmp}
 use Rattle.tl_write.specs.Tables.{Tables, is_in}
 use Rattle.tl_isolation.specs.declared.state.Commit.{Commit}
 use Rattle.tl_isolation.specs.State.{tables_after}
 use Rattle.tl_si.specs.declared.past.Place.{Place}
 use Rattle.tl_si.specs.Places.{AreFound, Records, above, row_after, same_key, with_record, with_records, with_row}
-use Rattle.tl_si.proofs.Laid.{Key, Row, equal_keys, tie}
+use Rattle.tl_si.proofs.Laid.{Key, Row, equal_keys}
 use Rattle.tl_si.proofs.Rows.{row_is}
-use Rattle.tl_si.proofs.Logic.{both, none_below}
+use Rattle.tl_write.proofs.Keys.{key_eq, none_below}
 
 module _ (number : ℕ) (commits : List Commit) (first : ℕ) where
   -- the row at the found places, over the one before
@@ -62,18 +63,14 @@ module _ (number : ℕ) (commits : List Commit) (first : ℕ) where
           → merged (is_in number q) (find key_cmp q es) (if b then (if is_in number e.0 then row_or (row_after commits first e.1) (finmap.get tables q) else finmap.get tables q) else finmap.get tables q)
           ≡ merged (is_in number q) (cond b (Some e.1) (find key_cmp q es)) (finmap.get tables q)
       by true t below =
-          let none : find key_cmp q es ≡ None = ap (λ (k : Key). find key_cmp k es) (tie q e.0 t) ∙ none_below e.0 es below in
+          let none : find key_cmp q es ≡ None = ap (λ (k : Key). find key_cmp k es) (key_eq q e.0 t) ∙ none_below e.0 es below in
           ap (λ (o : Option (List Place)). merged (is_in number q) o (if is_in number e.0 then row_or (row_after commits first e.1) (finmap.get tables q) else finmap.get tables q)) none
-          ∙ inside (is_in number e.0) (is_in number q) (ap (is_in number) (sym (tie q e.0 t)))
+          ∙ inside (is_in number e.0) (is_in number q) (ap (is_in number) (sym (key_eq q e.0 t)))
       by false t below = refl
 
 -- the keys of the table lie between these
 abbrev pub between : ℕ → Key → Bool
 between number key = is_le (key_cmp (4 ∷ number ∷ []) key) && is_lt (key_cmp key (above number))
-
-true_if : (b : Bool) → T b → b ≡ true
-true_if true h = refl
-true_if false h = absurd h
 
 module _ (number : ℕ) (commits : List Commit) (first : ℕ) (records : Records) (found : AreFound commits records)
     (covers : (key : Key) → is_in number key ≡ true → between number key ≡ true) where
@@ -105,7 +102,7 @@ module _ (number : ℕ) (commits : List Commit) (first : ℕ) (records : Records
   table_is =
       finmap.same_map nat_list_cmp_total equal_keys (with_records number commits first finmap.empty listed) (finmap.retain_keys all (is_in number))
       (λ q.
-      get_records number commits first q listed finmap.empty (true_if _ (is_sorted-where_key key_cmp (between number) (finmap.entries records) (finmap.entries_sorted records)))
+      get_records number commits first q listed finmap.empty (held _ (is_sorted-where_key key_cmp (between number) (finmap.entries records) (finmap.entries_sorted records)))
       ∙ ap (merged number commits first (is_in number q) (find key_cmp q listed)) (finmap.get-empty key_cmp q)
       ∙ ap (λ (o : Option (List Place)). merged number commits first (is_in number q) o None) (find_listed q)
       ∙ by q (is_in number q) refl
@@ -127,7 +124,7 @@ covers number (k ∷ []) e = absurd (none (4 == k) e)
 covers number (k ∷ n ∷ rest) e =
     let equal = parts (4 == k) (number == n) e in
     subst (λ (m : ℕ). between number (m ∷ n ∷ rest) ≡ true) (eqb-true 4 k equal.0)
-    (subst (λ (m : ℕ). between number (4 ∷ m ∷ rest) ≡ true) (eqb-true number n equal.1) (both _ _ (from rest) before))
+    (subst (λ (m : ℕ). between number (4 ∷ m ∷ rest) ≡ true) (eqb-true number n equal.1) (and_from _ _ (from rest) before))
   where
     parts : (a b : Bool) → (a && (b && true)) ≡ true → (a ≡ true) × (b ≡ true)
     parts true true e = (refl, refl)

@@ -1,5 +1,5 @@
-pub mod Fine
-pub mod Fits
-pub mod Kept
-pub mod Options
-pub mod Runs
+mod Fine
+mod Fits
+mod Kept
+mod Options
+mod Runs

@@ -1,20 +1,16 @@
 -- The items that are left, where the finished ones are passed.
 use Rattle.std.proofs.Common.{◌≡◌, ◌∙◌, ℕ, Bool, true, false, List, [], ◌∷◌, ◌++◌, Some, None, length, nat_le, ap, refl, sym}
 use Rattle.std.specs.Prelude.{◌==◌, not, if◌then◌else◌}
-use Rattle.std.proofs.lemmas.Bool.{or_parts}
+use Rattle.std.proofs.lemmas.Bool.{not-true, or_parts}
+use Rattle.tl_lemmas.proofs.Lists.{passes}
 use Rattle.tl_isolation.specs.declared.script.Script.{Script}
 use Rattle.tl_isolation.specs.declared.script.TurnItem.{TurnItem}
 use Rattle.tl_isolation.specs.declared.script.TurnItem.TheVariants.{One, Until}
 use Rattle.tl_isolation.specs.Script.{answers_by}
-use Rattle.tl_isolation.proofs.Lookups.{passes}
 use Rattle.tl_journal.specs.declared.event.Event.{Event}
 use Rattle.tl_journal.specs.Journal.{entries_told}
 use Rattle.tl_journal.specs.Schedule.{Clock, is_finished, is_over, next_round, node_of, turn_at, turn_by, unfinished}
 use Rattle.tl_journal.proofs.Grows.{finished_stays}
-
-not_true : (b : Bool) → not b ≡ true → b ≡ false
-not_true false e = refl
-not_true true e = absurd cc
 
 module _ (script : Script) (events : List Event) where
   pub passes_one : (item : TurnItem) (items : List TurnItem) → is_finished script events item ≡ true
@@ -41,7 +37,7 @@ module _ (script : Script) (events : List Event) where
   not_over (Until node statement) h = (or_parts (nat_le statement (length (answers_by node (entries_told events)))) (is_over script events node) h).1
 
   next_runs : (last node : ℕ) → next_round script events last ≡ Some node → is_over script events node ≡ false
-  next_runs last node h = not_true (is_over script events node) (passes (λ n. not (is_over script events n)) _ node h)
+  next_runs last node h = not-true (is_over script events node) (passes (λ n. not (is_over script events n)) _ node h)
 
   some_same : (n m : ℕ) → Some n ≡ Some m → n ≡ m
   some_same n m e = cc

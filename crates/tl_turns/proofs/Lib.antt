@@ -1,9 +1,9 @@
-pub mod Behind
-pub mod Clocks
-pub mod Finished
-pub mod Refusals
-pub mod Rounds
-pub mod Rows
-pub mod SoFar
-pub mod Stops
-pub mod Turn
+mod Behind
+mod Clocks
+mod Finished
+mod Refusals
+mod Rounds
+mod Rows
+mod SoFar
+mod Stops
+mod Turn

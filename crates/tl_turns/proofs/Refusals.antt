@@ -28,10 +28,11 @@ use Rattle.tl_journal.specs.Strange.{is_odd_for, is_stopped, is_strange, sound_h
 use Rattle.tl_journal.specs.Takes.{takes}
 use Rattle.tl_journal.proofs.Asking.{asks_no_post}
 use Rattle.tl_journal.proofs.Logs.{along_at, at_event, manager_replies}
-use Rattle.tl_journal.proofs.Posted.{home_among}
+use Rattle.tl_journal.proofs.Posted.{home_among, replies}
 use Rattle.tl_journal.proofs.StrangeHeard.{heard_as_said}
 use Rattle.tl_journal.proofs.StrangeReplies.{nothing_strange}
 use Rattle.tl_turns.proofs.Stops.{stops}
+use Rattle.tl_journal.proofs.Requests.{asked_no_post}
 
 -- what holds at each place holds along the list
 along_each : {A : Type 0} (P : A → Type 0) (past now : List A) → ((front : List A) (x : A) (rest : List A) → past ++ now ≡ front ++ x ∷ rest → P x)
@@ -44,18 +45,6 @@ along_each P past (x ∷ now) h =
 no_post : (m : ℕ) (r : ManagerRequest) → ((d : ℕ) (also : NodeSet) → r ≡ asked.Post d also → ⊥) → is_post (request.Manager r) ≡ false
 no_post m (asked.Post d also) = λ h. absurd (h d also refl)
 no_post m r = λ h. refl
-
-asks_none : (ask : Ask) → ((m d : ℕ) (also : NodeSet) → ask ≡ AskManager m (asked.Post d also) → ⊥) → is_post (written ask) ≡ false
-asks_none (AskManager m r) = λ h. no_post m r (λ d also e. h m d also (ap (AskManager m) e))
-asks_none ask = λ h. refl
-
--- a manager replies to it as a manager
-replies : (m : ℕ) (asks : ManagerRequest) (at : PlaceId) (r : Request) (p : Reply) → IsCall at r p → at ≡ place.Manager m → r ≡ request.Manager asks
-    → (answer : ManagerReply) × (p ≡ reply.Manager answer)
-replies m asks (place.Shard s) r p h at asked_so = cc
-replies m asks (place.Manager k) (request.Store r) p h at asked_so = cc
-replies m asks (place.Manager k) (request.Manager r) (reply.Store p) h at asked_so = absurd h
-replies m asks (place.Manager k) (request.Manager r) (reply.Manager p) h at asked_so = (p, refl)
 
 module _ (script : Script) (settings : Settings) (past : List Event) (e : Event) (rest : List Event) (run : IsRun script settings (past ++ e ∷ rest))
     (rows : length script.rows < 2 ^ 32) where
@@ -70,7 +59,7 @@ module _ (script : Script) (settings : Settings) (past : List Event) (e : Event)
       request_so : is_post e.request ≡ false
       request_so =
           ap is_post so
-          ∙ asks_none ask (λ m d also same. asks_no_post settings script.catalog (node_after settings script past session) m d also (is_asked ∙ ap (λ (x : Ask). Some x) same))
+          ∙ asked_no_post ask (λ m d also same. asks_no_post settings script.catalog (node_after settings script past session) m d also (is_asked ∙ ap (λ (x : Ask). Some x) same))
 
       sane : is_strange settings script.catalog (node_after settings script past session) ask e.reply ≡ false
       sane = nothing_strange script settings past e rest run rows request_so session is ask is_asked

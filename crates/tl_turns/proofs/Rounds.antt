@@ -4,6 +4,7 @@ use Rattle.std.specs.Prelude.{not}
 use Rattle.std.specs.Option.{option_or}
 use Rattle.std.proofs.lemmas.Bool.Decides.{nat_tests}
 use Rattle.std.proofs.lemmas.List.Folds.{find-append}
+use Rattle.std.proofs.lemmas.Bool.{le-leb, leb-true, not-false}
 use Rattle.tl_journal.specs.Schedule.{node_numbers}
 use Rattle.tl_turns.specs.Clock.{IsFirst}
 use Rattle.tl_turns.proofs.Rows.{AreFrom, found_from, missed_from, none_from}
@@ -17,18 +18,8 @@ above_is a b h = grind (arith, nat_tests)
 is_above : (a b : ℕ) → a < b → nat_lt a b ≡ true
 is_above a b h = grind (arith, nat_tests)
 
-most_is : (a b : ℕ) → nat_le a b ≡ true → a ≤ b
-most_is a b h = grind (arith, nat_tests)
-
-is_most : (a b : ℕ) → a ≤ b → nat_le a b ≡ true
-is_most a b h = grind (arith, nat_tests)
-
 is_most_unless : (a b : ℕ) → nat_lt a b ≡ false → nat_le b a ≡ true
 is_most_unless a b h = grind (arith, nat_tests)
-
-not_false : (b : Bool) → not b ≡ false → b ≡ true
-not_false true e = refl
-not_false false e = absurd cc
 
 first_none : {A : Type 0} (o r : Option A) → option_or o r ≡ None → o ≡ None
 first_none None r e = refl
@@ -70,11 +61,11 @@ module _ (over : ℕ → Bool) (last : ℕ) where
   lowest : (r : Option ℕ) → IsFirst over 0 last r → lower ≡ r
   lowest None h =
       none_from runs (λ n. nat_le n last) 1 node_numbers numbers
-      (λ k from to passes. ap not (h k (omega arith) (most_is k last passes) (omega arith)))
+      (λ k from to passes. ap not (h k (omega arith) (leb-true k last passes) (omega arith)))
   lowest (Some n) h =
       let low : 0 < n = h.0 in
       let high : n ≤ 16 = h.2 in
-      found_from runs (λ n. nat_le n last) 1 node_numbers numbers n (omega arith) (omega arith) (is_most n last h.1) (ap not h.3)
+      found_from runs (λ n. nat_le n last) 1 node_numbers numbers n (omega arith) (omega arith) (le-leb n last h.1) (ap not h.3)
       (λ k from to passes. ap not (h.4 k (omega arith) to))
 
   -- else it is the lowest
@@ -100,8 +91,8 @@ module _ (over : ℕ → Bool) (last : ℕ) where
 
       by : (b : Bool) → nat_lt last n ≡ b → over n ≡ true
       by true e =
-          not_false (over n)
+          not-false (over n)
           (missed_from runs (λ n. nat_lt last n) 1 node_numbers numbers no_upper n low (omega arith) e)
       by false e =
-          not_false (over n)
+          not-false (over n)
           (missed_from runs (λ n. nat_le n last) 1 node_numbers numbers no_lower n low (omega arith) (is_most_unless last n e))

@@ -1,7 +1,8 @@
 -- What holds of a run so far, before each turn, and what holds at its end.
 use Rattle.std.proofs.Common.{◌≡◌, ◌∙◌, inl, inr, ℕ, ◌+◌, ◌<◌, ◌≤◌, Bool, true, false, List, [], ◌∷◌, ◌++◌, Option, Some, None, length, append_assoc, append-nil, length-append, ap, refl, sym, subst, arith}
 use Rattle.std.specs.Prelude.{◌==◌, ◌&&◌, ◌||◌, not, if◌then◌else◌}
-use Rattle.std.proofs.lemmas.Bool.{both_ways}
+use Rattle.std.proofs.lemmas.Bool.{both_ways, or_left}
+use Rattle.tl_lemmas.proofs.Lists.{found}
 use Rattle.tl_base.specs.Along.{Along}
 use Rattle.tl_base.specs.declared.place.Settings.{Settings}
 use Rattle.tl_isolation.specs.declared.entry.Ending.{Ending}
@@ -10,7 +11,6 @@ use Rattle.tl_isolation.specs.declared.entry.Entry.TheVariants as entry
 use Rattle.tl_isolation.specs.declared.script.Script.{Script}
 use Rattle.tl_isolation.specs.declared.script.Session.{Session}
 use Rattle.tl_isolation.specs.declared.script.TurnItem.{TurnItem}
-use Rattle.tl_isolation.proofs.Lookups.{found}
 use Rattle.tl_journal.specs.Outcome.{HasRun}
 use Rattle.tl_journal.specs.declared.event.Event.{Event}
 use Rattle.tl_journal.specs.Journal.{has_vanished, is_post, session_of}
@@ -18,7 +18,6 @@ use Rattle.tl_journal.specs.Binding.{IsBound}
 use Rattle.tl_journal.specs.Law.{IsRun}
 use Rattle.tl_journal.specs.Run.{EndsAt}
 use Rattle.tl_journal.specs.Schedule.{Clock, EndsSo, InTurn, MayAsk, clock_after, gave_none, is_behind, is_done, is_due, is_over, is_spent, latest, next_round, owes_notice, owing, turn_at, unfinished}
-use Rattle.tl_journal.proofs.Grows.{left_true}
 use Rattle.tl_journal.proofs.InOrder.{along_one, latest_more}
 use Rattle.tl_journal.proofs.Opens.{found_number}
 use Rattle.tl_world.specs.declared.world.Turned.{Turned}
@@ -258,7 +257,7 @@ outside : (script : Script) (settings : Settings) (events : List Event) → IsBo
 outside script settings events bound among n = by (session_of script n) refl
   where
     by : (o : Option Session) → session_of script n ≡ o → is_over script events n ≡ true
-    by None e = left_true (is_done script events n) (has_vanished events n) (rw e refl)
+    by None e = or_left (is_done script events n) (has_vanished events n) (rw e refl)
     by (Some session) e =
         let own : session.node ≡ n = found_number script.sessions n session e in
         let within : (1 ≤ session.node) × (session.node ≤ 16) =

@@ -2,6 +2,7 @@
 use Rattle.std.proofs.Common.{◌≡◌, ℕ, ◌+◌, ◌^◌, Bool, true, false, List, [], ◌∷◌, ◌++◌, take, drop, Option, Some, None, refl, sym, ap, ◌∙◌, subst, arith}
 use Rattle.std.specs.Prelude.{not, ◌&&◌, ◌||◌, nat_le, nat_lt, slice_get}
 use Rattle.std.proofs.lemmas.Bool.Decides.{nat_tests}
+use Rattle.std.proofs.lemmas.Bool.{or_right}
 use Rattle.tl_base.specs.declared.place.Settings.{Settings}
 use Rattle.tl_schema.specs.declared.catalog.Catalog.{Catalog}
 use Rattle.tl_collect.specs.Floors.{least_of}
@@ -57,10 +58,6 @@ odd_begin most tid false e = grind (arith, nat_tests)
 odd_drawn : (most old : ℕ) → not (nat_le old most) ≡ true → nat_lt most old ≡ true
 odd_drawn most old e = grind (arith, nat_tests)
 
-either : (a b : Bool) → b ≡ true → (a || b) ≡ true
-either true b e = refl
-either false b e = e
-
 module _ (settings : Settings) (catalog : Catalog) (commits : List Committed) (node : Node) (statement : Bound) (stage : Stage) where
   abbrev pub ByStep : Phase → Heard → Node → List Entry → Bool → Taken → Option TxnStep → Type 0
   ByStep before heard after said odd taken None = HasInHand before → MayHear before heard → (is_stopped after.doing || odd) ≡ true
@@ -75,7 +72,7 @@ module _ (settings : Settings) (catalog : Catalog) (commits : List Committed) (n
 
   unless : (before : Phase) (heard : Heard) (after : Node) (said : List Entry) (odd b : Bool) (taken : Taken) → (b ≡ true → odd ≡ true)
       → Outcome before heard after said odd taken → Outcome before heard after said odd (unless_odd b taken)
-  unless before heard after said odd true taken h o = λ in_hand heard_so. either (is_stopped after.doing) odd (h refl)
+  unless before heard after said odd true taken h o = λ in_hand heard_so. or_right (is_stopped after.doing) odd (h refl)
   unless before heard after said odd false taken h o = o
 
   -- ---- it begins

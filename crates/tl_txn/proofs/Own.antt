@@ -2,29 +2,24 @@
 use Rattle.std.proofs.Common.{◌≡◌, ℕ, zero, suc, ◌<◌, ◌≤◌, Bool, true, false, List, [], ◌∷◌, Option, Some, None, length, map, refl, sym, ap, ◌∙◌, subst, arith}
 use Rattle.std.specs.Prelude.{◌||◌, slice_get, if◌then◌else◌}
 use Rattle.std.proofs.lemmas.Bool.{and_from}
+use Rattle.tl_lemmas.proofs.Lists.{some_at}
+use Rattle.tl_lemmas.proofs.Tests.{and_first, and_second}
 use Rattle.tl_logrec.specs.Entry.{are_rising, rise_from}
 use Rattle.tl_write.specs.declared.write.Write.{Write}
 use Rattle.tl_write.specs.Own.{is_rising, is_written}
-use Rattle.tl_write.proofs.Rising.{first, second, none_below}
+use Rattle.tl_write.proofs.Rising.{none_below}
 use Rattle.tl_protocol.specs.Next.{own_version}
 use Rattle.tl_protocol.specs.Store.{last_of, same_key, written}
 use Rattle.tl_protocol.specs.World.{Fresh}
-use Rattle.tl_protocol.proofs.Cells.{key_itself}
 use Rattle.tl_journal.specs.Ask.{StoreRecord}
 use Rattle.tl_versions.specs.declared.version.Version.{Version}
 use Rattle.tl_versions.specs.Versions.{prune}
 use Rattle.tl_txn.specs.Attempt.{Attempt, txn_of}
 use Rattle.tl_txn.specs.Taken.{next_versions}
+use Rattle.tl_journal.proofs.Sizes.{keys_rise, keys_rise_from}
+use Rattle.tl_write.proofs.Keys.{key_itself}
 
 -- ---- their keys rise as they do
-
-keys_rise_from : (w : Write) (ws : List Write) → is_rising (w ∷ ws) ≡ true → rise_from w.key (map (λ (o : Write). o.key) ws) ≡ true
-keys_rise_from w [] h = refl
-keys_rise_from w (x ∷ xs) h = and_from _ _ (first _ _ (first _ _ h)) (keys_rise_from x xs (second _ _ h))
-
-pub keys_rise : (ws : List Write) → is_rising ws ≡ true → are_rising (map (λ (o : Write). o.key) ws) ≡ true
-keys_rise [] h = refl
-keys_rise (w ∷ ws) h = keys_rise_from w ws h
 
 -- ---- the row of a write is the one that is written under its key
 
@@ -62,7 +57,7 @@ unwritten k (x ∷ ws) e =
 found_first : (w o : Write) (ws : List Write) → is_rising (w ∷ ws) ≡ true → w ≡ o → written o.key (w ∷ ws) ≡ Some o.row
 found_first w o ws h e =
     subst (λ (x : Write). written x.key (w ∷ ws) ≡ Some x.row) e
-    (last_row (same_key w.key w.key) w.row (written w.key ws) (key_itself w.key) (unwritten w.key ws (none_below w.key ws (first _ _ h))))
+    (last_row (same_key w.key w.key) w.row (written w.key ws) (key_itself w.key) (unwritten w.key ws (none_below w.key ws (and_first _ _ h))))
 
 some_is : {A : Type 0} (x y : A) → ◌≡◌ {A = Option A} (Some x) (Some y) → x ≡ y
 some_is x y e = cc
@@ -70,7 +65,7 @@ some_is x y e = cc
 found : (own : List Write) (i : ℕ) (o : Write) → is_rising own ≡ true → slice_get own i ≡ Some o → written o.key own ≡ Some o.row
 found [] i o h e = absurd cc
 found (w ∷ ws) zero o h e = found_first w o ws h (some_is w o e)
-found (w ∷ ws) (suc i) o h e = last_later _ o.row (written o.key ws) (found ws i o (second _ _ h) e)
+found (w ∷ ws) (suc i) o h e = last_later _ o.row (written o.key ws) (found ws i o (and_second _ _ h) e)
 
 pub own_row : (a : Attempt) (i : ℕ) (o : Write) → is_rising a.own ≡ true → slice_get a.own i ≡ Some o
     → own_version o.key (txn_of Fresh a) ≡ record { tid = a.tid; row = o.row }
@@ -82,11 +77,6 @@ pub none_at : {A : Type 0} (xs : List A) (i : ℕ) → length xs ≤ i → slice
 none_at [] i h = refl
 none_at (x ∷ xs) zero h = absurd (omega arith)
 none_at (x ∷ xs) (suc i) h = none_at xs i (omega arith)
-
-pub some_at : {A : Type 0} (xs : List A) (i : ℕ) → i < length xs → (x : A) × (slice_get xs i ≡ Some x)
-some_at [] i h = absurd (omega arith)
-some_at (x ∷ xs) zero h = (x, refl)
-some_at (x ∷ xs) (suc i) h = some_at xs i (omega arith)
 
 -- what is asked of the own record in hand
 pub asks_next : (a : Attempt) (i : ℕ) (x o : Write) (stamp : ℕ) (versions : List Version) → is_rising a.own ≡ true → slice_get a.own i ≡ Some x → slice_get a.own i ≡ Some o

@@ -1,5 +1,5 @@
 pub mod Digits
-pub mod EscapedOn
+mod EscapedOn
 pub mod KeyOrder
 pub mod KeyReading
 pub mod Utf8

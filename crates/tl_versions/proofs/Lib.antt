@@ -1,4 +1,4 @@
 pub mod CellReading
 pub mod Lists
-pub mod RowReading
+mod RowReading
 pub mod Short

@@ -13,8 +13,8 @@ use Rattle.tl_isolation.specs.declared.state.Transaction.{Transaction}
 use Rattle.tl_isolation.specs.History.{IsHistoryFrom, state_from}
 use Rattle.std.specs.Prelude.{◌==◌}
 use Rattle.std.proofs.lemmas.Bool.{eqb-true}
+use Rattle.tl_lemmas.proofs.Lists.{passes}
 use Rattle.tl_isolation.specs.State.{held_as, held_by, is_lost}
-use Rattle.tl_isolation.proofs.Lookups.{passes}
 use Rattle.tl_isolation.specs.Step.{Allowed, after, commit, commit_answer, end_with, forget_note, meet_rival, take_statement, try_commit, undo, undo_answer, with_held}
 use Rattle.tl_protocol.specs.Told.{count_in}
 use Rattle.tl_journal.specs.Law.{AreFirst}
@@ -26,6 +26,7 @@ use Rattle.tl_manager.specs.declared.request.Reply.TheVariants as reply
 use Rattle.tl_node.specs.After.{marked}
 use Rattle.tl_world.specs.Stands.{committed_by, committed_in}
 use Rattle.tl_world.specs.Told.{counted_on, first_in, marked_in}
+use Rattle.tl_isolation.proofs.Kept.{numbered}
 
 abbrev pub tids : List Commit → List ℕ
 tids commits = map (λ (c : Commit). c.tid) commits
@@ -56,17 +57,13 @@ tids_more (x ∷ xs) c = ap (λ ys. x.tid ∷ ys) (tids_more xs c)
 none_found : (t : Transaction) → ◌≡◌ {A = Option Transaction} None (Some t) → ⊥
 none_found t e = cc
 
--- a transaction that is committed is held by its number
-found_tid : (tid : ℕ) (held : List Transaction) (t : Transaction) → held_as tid held ≡ Some t → t.tid ≡ tid
-found_tid tid held t e = eqb-true t.tid tid (passes (λ (x : Transaction). x.tid == tid) held t e)
-
 committed_more : (catalog : Catalog) (state : SiState) (tid : ℕ) (t : Transaction) → held_as tid state.held ≡ Some t
     → tids (commit (held_as tid state.held) state).commits ≡ tids state.commits ++ tid ∷ []
 committed_more catalog state tid t e =
     ap (λ o. tids (commit o state).commits) e
     ∙ ap tids (ended_same (commit_answer t.unanswered) t (record state { commits = state.commits ++ record { tid = t.tid; writes = t.own } ∷ [] }))
     ∙ tids_more state.commits (record { tid = t.tid; writes = t.own })
-    ∙ ap (λ k. tids state.commits ++ k ∷ []) (found_tid tid state.held t e)
+    ∙ ap (λ k. tids state.commits ++ k ∷ []) (numbered tid state.held t e)
 
 same_tids : (state new : SiState) → new.commits ≡ state.commits → tids new.commits ≡ tids state.commits ++ []
 same_tids state new e = ap tids e ∙ sym (append-nil (tids state.commits))

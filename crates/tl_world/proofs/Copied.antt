@@ -2,6 +2,7 @@
 use Rattle.std.proofs.Common.{◌≡◌, ℕ, Bool, true, false, List, [], ◌∷◌, ◌++◌, Option, Some, None, refl}
 use Rattle.std.specs.Prelude.{◌||◌}
 use Rattle.std.specs.List.{list_any}
+use Rattle.tl_lemmas.proofs.Tests.{never_both}
 use Rattle.tl_base.specs.NodeSet.{no_nodes}
 use Rattle.tl_base.specs.declared.place.Settings.{Settings}
 use Rattle.tl_schema.specs.declared.catalog.Catalog.{Catalog}
@@ -26,9 +27,6 @@ use Rattle.tl_journal.specs.Reads.{Read, Reads, all_reads, begin_reads, tables_r
 use Rattle.tl_journal.specs.Says.{says_at, says_closing, says_commit, says_doing, says_end_lost, says_ending, says_finishing, says_idle, says_inside, says_noted, says_outside, says_read, says_recovered, says_recovering, says_rival, says_statement, says_storing}
 use Rattle.tl_journal.specs.Takes.{after_reply, goes_on, idles, learnt, said, takes, takes_doing, takes_inside, takes_read, with_doing}
 use Rattle.tl_world.specs.Told.{takes_memory}
-
-both_ways : (b : Bool) → b ≡ true → b ≡ false → ⊥
-both_ways b e f = cc
 
 -- a statement is said that takes memory to copy
 abbrev pub is_long : Entry → Bool
@@ -61,7 +59,7 @@ none_before (y ∷ []) e x f = cc
 none_before (y ∷ z ∷ es) e x f = cc
 
 quiet : (es : List Entry) (others : Answer → List Entry) → are_long es ≡ false → are_long es ≡ true → IsAlone es others
-quiet es others f g = absurd (both_ways (are_long es) g f)
+quiet es others f g = absurd (never_both (are_long es) g f)
 
 -- ---- where no such statement is said
 
@@ -129,28 +127,28 @@ module _ (settings : Settings) (catalog : Catalog) (commits : List Committed) (n
 
   read_alone : (statement : Bound) (t : Txn) (told : Answer) (o : Option Reads) → are_long (says_read n statement t o told) ≡ true
       → IsAlone (says_read n statement t o told) (λ x. says_read n statement t o x)
-  read_alone statement t told None f = absurd (both_ways false f refl)
+  read_alone statement t told None f = absurd (never_both false f refl)
   read_alone statement t told (Some after) f = by after.left f
     where
       by : (left : List Read) → are_long (says_read n statement t (Some (record after { left = left })) told) ≡ true
           → IsAlone (says_read n statement t (Some (record after { left = left })) told) (λ x. says_read n statement t (Some (record after { left = left })) x)
       by [] f = record { entry_is = says_statement n statement t told; alone = refl; nothing = λ x. refl; says = λ x. refl }
-      by (read ∷ left) f = absurd (both_ways false f refl)
+      by (read ∷ left) f = absurd (never_both false f refl)
 
   idle_alone : (statement : Bound) (t : Txn) (told : Answer) (h : Heard) → are_long (says_idle n statement t h told) ≡ true
       → IsAlone (says_idle n statement t h told) (λ x. says_idle n statement t h x)
-  idle_alone bound.Begin t told (Told (manager.FloorIs floor)) f = absurd (both_ways false f refl)
-  idle_alone (bound.Recover gone) t told (Told (manager.FloorIs floor)) f = absurd (both_ways false f refl)
+  idle_alone bound.Begin t told (Told (manager.FloorIs floor)) f = absurd (never_both false f refl)
+  idle_alone (bound.Recover gone) t told (Told (manager.FloorIs floor)) f = absurd (never_both false f refl)
   idle_alone statement t told (Told (manager.FloorIs floor)) f =
       record { entry_is = says_statement n statement t told; alone = refl; nothing = λ x. refl; says = λ x. refl }
-  idle_alone statement t told h f = absurd (both_ways false f refl)
+  idle_alone statement t told h f = absurd (never_both false f refl)
 
   inside_alone : (statement : Bound) (t : Txn) (course : Course) (told : Answer) (h : Heard) → are_long (says_inside settings n statement t course h told) ≡ true
       → IsAlone (says_inside settings n statement t course h told) (λ x. says_inside settings n statement t course h x)
   inside_alone statement t (ToRead reads) told h f = read_alone statement t told (after_reply settings t.snapshot reads reads.left h) f
   inside_alone statement t ToIdle told h f = idle_alone statement t told h f
   inside_alone statement t ToCommit told h f = quiet (says_commit t h) (λ x. says_commit t h) (commit_short t h) f
-  inside_alone statement t course told h f = absurd (both_ways false f refl)
+  inside_alone statement t course told h f = absurd (never_both false f refl)
 
   -- ---- whom it is to recover
 
@@ -200,7 +198,7 @@ module _ (settings : Settings) (catalog : Catalog) (commits : List Committed) (n
 
   none : (statement : Bound) (d : Doing) (h : Heard) (told : Answer) → are_long (says_doing settings catalog commits n statement d h told) ≡ true
       → are_long (says_doing settings catalog commits n statement d h told) ≡ false → AloneAs statement d h told
-  none statement d h told f g = absurd (both_ways (are_long (says_doing settings catalog commits n statement d h told)) f g)
+  none statement d h told f g = absurd (never_both (are_long (says_doing settings catalog commits n statement d h told)) f g)
 
   doing_alone : (statement : Bound) (d : Doing) (h : Heard) (told : Answer) → are_long (says_doing settings catalog commits n statement d h told) ≡ true
       → AloneAs statement d h told
@@ -223,7 +221,7 @@ module _ (settings : Settings) (catalog : Catalog) (commits : List Committed) (n
   doing_alone statement (Recovering c) h told f = none statement (Recovering c) h told f (recovering_short c c.left h)
   doing_alone statement (Finishing c o committed x) h told f = none statement (Finishing c o committed x) h told f (finishing_short o committed x h)
   doing_alone statement (EndingLost c o) h told f = none statement (EndingLost c o) h told f (end_lost_short c o h)
-  doing_alone statement d h told f = absurd (both_ways false f refl)
+  doing_alone statement d h told f = absurd (never_both false f refl)
 
 -- nothing but what is said is told, and nobody is to be recovered
 pub record SaidAlone (settings : Settings) (catalog : Catalog) (commits : List Committed) (n : Node) (h : Heard) (told : Answer) : Type 0 where
@@ -237,7 +235,7 @@ said_alone settings catalog commits n h told f = by n.todo f
   where
     by : (todo : List Bound) → are_long (says_at settings catalog commits (record n { todo = todo }) h told) ≡ true
         → SaidAlone settings catalog commits (record n { todo = todo }) h told
-    by [] f = absurd (both_ways false f refl)
+    by [] f = absurd (never_both false f refl)
     by (statement ∷ later) f =
         let c = doing_alone settings catalog commits (record n { todo = statement ∷ later }) statement n.doing h told f in
         record { all = c.all; owes = c.owes; owed = c.owed }

@@ -2,6 +2,8 @@
 use Rattle.std.proofs.Common.{◌≡◌, ℕ, ◌+◌, Bool, true, false, List, [], ◌∷◌, ◌++◌, length, Option, Some, None, refl, sym, ap, ◌∙◌, subst, arith}
 use Rattle.std.specs.Prelude.{◌==◌, ◌&&◌, not, filter, if◌then◌else◌}
 use Rattle.std.proofs.lemmas.Bool.{eq-eqb}
+use Rattle.std.proofs.lemmas.List.{length_push}
+use Rattle.tl_lemmas.proofs.Tests.{and_not}
 use Rattle.tl_isolation.specs.declared.script.Vanish.{Vanish}
 use Rattle.tl_journal.specs.declared.event.Event.{Event}
 use Rattle.tl_journal.specs.Journal.{is_post}
@@ -25,15 +27,6 @@ filter_one p (y ∷ ys) x e = by (p y) (filter_one p ys x e)
     by true h = ap (λ zs. y ∷ zs) h
     by false h = h
 
-length_more : {A : Type 0} (xs : List A) (x : A) → length (xs ++ x ∷ []) ≡ length xs + 1
-length_more [] x = refl
-length_more (y ∷ ys) x = let h : length (ys ++ x ∷ []) ≡ length ys + 1 = length_more ys x in omega arith
-
-and_true : (a b : Bool) → a ≡ true → b ≡ false → (a && not b) ≡ true
-and_true true false e f = refl
-and_true true true e f = cc
-and_true false b e f = cc
-
 module _ (past : List Event) (e : Event) where
   -- an event of another node, or a death notice
   pub requests_stay : (n : ℕ) → (e.node == n) && not (is_post e.request) ≡ false → requests_of n (past ++ e ∷ []) ≡ requests_of n past
@@ -48,17 +41,17 @@ module _ (past : List Event) (e : Event) where
 
   -- a request of the node
   pub requests_grow : (n : ℕ) → e.node ≡ n → is_post e.request ≡ false → requests_of n (past ++ e ∷ []) ≡ requests_of n past ++ e ∷ []
-  requests_grow n own post = filter_one (λ (x : Event). (x.node == n) && not (is_post x.request)) past e (and_true (e.node == n) (is_post e.request) (eq-eqb e.node n own) post)
+  requests_grow n own post = filter_one (λ (x : Event). (x.node == n) && not (is_post x.request)) past e (and_not (e.node == n) (is_post e.request) (eq-eqb e.node n own) post)
 
   pub made_more : (n : ℕ) → e.node ≡ n → is_post e.request ≡ false → length (requests_of n (past ++ e ∷ [])) ≡ length (requests_of n past) + 1
-  made_more n own post = ap length (requests_grow n own post) ∙ length_more (requests_of n past) e
+  made_more n own post = ap length (requests_grow n own post) ∙ length_push (requests_of n past) e
 
   one_counts : (v : Vanish) (xs : List Event) (b : Bool) → counts v.kind e.request e.reply ≡ b
       → length (filter (λ (x : Event). counts v.kind x.request x.reply) (xs ++ e ∷ []))
       ≡ (if b then length (filter (λ (x : Event). counts v.kind x.request x.reply) xs) + 1 else length (filter (λ (x : Event). counts v.kind x.request x.reply) xs))
   one_counts v xs true h =
       ap length (filter_one (λ (x : Event). counts v.kind x.request x.reply) xs e h)
-      ∙ length_more (filter (λ (x : Event). counts v.kind x.request x.reply) xs) e
+      ∙ length_push (filter (λ (x : Event). counts v.kind x.request x.reply) xs) e
   one_counts v xs false h = ap length (filter_none (λ (x : Event). counts v.kind x.request x.reply) xs e h)
 
   pub counts_more : (v : Option Vanish) (n : ℕ) → ((w : Vanish) → v ≡ Some w → w.node ≡ n) → e.node ≡ n → is_post e.request ≡ false

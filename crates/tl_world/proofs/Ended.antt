@@ -1,6 +1,7 @@
 -- A node ends, and its death notice stands.
 use Rattle.std.proofs.Common.{◌≡◌, ℕ, ◌+◌, ◌<◌, Bool, true, false, List, [], ◌∷◌, ◌++◌, length, slice_index_or, slice_set, Option, Some, None, sym, ap, ◌∙◌, subst}
 use Rattle.std.specs.Prelude.{◌^◌, ◌↔◌}
+use Rattle.tl_lemmas.proofs.Tests.{never_both}
 use Rattle.tl_manager.specs.declared.request.ManagerReply.TheVariants as manager
 use Rattle.tl_manager.specs.declared.request.ManagerRequest.{ManagerRequest}
 use Rattle.tl_manager.specs.declared.request.ManagerRequest.TheVariants as asked_of
@@ -23,9 +24,6 @@ use Rattle.tl_world.specs.Stands.{SlotValue, StandsBut, ended}
 use Rattle.tl_world.specs.Turns.{Ends}
 use Rattle.tl_world.proofs.Serving.{Posts, ended_so, post_event}
 
-both_ways : (b : Bool) → b ≡ true → b ≡ false → ⊥
-both_ways b e f = cc
-
 module _ (old : World) (number at : ℕ) (there : IsThere old number at) (slot : SlotValue) (is : slot ≡ slice_index_or old.slots.items at slot) where
   node_is : slot.node ≡ Some there.node
   node_is = ap (λ (x : SlotValue). x.node) is ∙ there.node_is slot
@@ -44,7 +42,7 @@ module _ (old : World) (number at : ℕ) (there : IsThere old number at) (slot :
   pub never_homeless : (home : ℕ) → home ≡ home_of old.terms number → (b : Bool) → (b ≡ true ↔ (home < length old.places.managers)) → b ≡ false → (script : Script)
       → StandsBut number script (seen_as old) → ⊥
   never_homeless home e b has f script s =
-      both_ways b (has.1 (subst (λ (k : ℕ). k < length old.places.managers) (sym e) (home_is script s))) f
+      never_both b (has.1 (subst (λ (k : ℕ). k < length old.places.managers) (sym e) (home_is script s))) f
 
   module _ (ending : Ending) (few : length old.events.items + 1 < 2 ^ 32) (left : SlotValue) (left_is : left ≡ ended slot) where
     node_so : (v : NodeValue) → ◌≡◌ {A = Option NodeValue} (Some v) slot.node → slot.node ≡ Some v

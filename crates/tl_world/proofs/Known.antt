@@ -2,11 +2,11 @@
 use Rattle.std.proofs.Common.{◌≡◌, ℕ, Bool, true, false, List, Option, Some, None, refl, sym, ap, ◌∙◌, subst}
 use Rattle.std.specs.Prelude.{◌==◌}
 use Rattle.std.proofs.lemmas.Bool.{eqb-true}
+use Rattle.std.proofs.lemmas.Option.{none-some, same_Some}
+use Rattle.tl_lemmas.proofs.Lists.{passes}
 use Rattle.tl_base.specs.declared.place.Settings.{Settings}
 use Rattle.tl_isolation.specs.declared.script.Script.{Script}
 use Rattle.tl_isolation.specs.declared.script.Session.{Session}
-use Rattle.tl_isolation.proofs.Lookups.{passes}
-use Rattle.tl_protocol.proofs.Frames.{some_same}
 use Rattle.tl_journal.specs.declared.event.Event.{Event}
 use Rattle.tl_journal.specs.Ask.{Ask}
 use Rattle.tl_journal.specs.Journal.{has_vanished, node_after, session_of}
@@ -19,9 +19,6 @@ use Rattle.tl_node.proofs.AlikeTold.{number_seen}
 use Rattle.tl_world.specs.Stands.{HasSlot, IsLeft, IsLeftIf, IsNode, IsRunning, IsRunningBut, IsSlot, SlotValue, StandsOn, StandsAs, StandsBut, WorldValue, slot_of}
 use Rattle.tl_world.proofs.Others.{run_of}
 use Rattle.tl_world.proofs.Requests.{node_number}
-
-none_some : {A : Type 0} (x : A) → ◌≡◌ {A = Option A} None (Some x) → ⊥
-none_some x e = cc
 
 -- the session of a slot
 pub record HasSession (R : Session → NodeValue → Type 0) (script : Script) (w : WorldValue) (number : ℕ) (slot : SlotValue) : Type 0 where
@@ -43,8 +40,8 @@ has_session R script w s number slot was = by (session_of script number) refl (s
 
 -- what a node is asked by
 pub asked_some : (settings : Settings) (o : Option Ask) (a : Asked) → asked_by settings o ≡ Some a → (ask : Ask) × (o ≡ Some ask) × (asked settings ask ≡ a)
-asked_some settings None a e = absurd (none_some a e)
-asked_some settings (Some ask) a e = (ask, refl, some_same (asked settings ask) a e)
+asked_some settings None a e = absurd (none-some a e)
+asked_some settings (Some ask) a e = (ask, refl, same_Some (asked settings ask) a e)
 
 -- ---- a node that is about to vanish
 

@@ -1,22 +1,22 @@
-pub mod AtFirst
-pub mod Clashes
-pub mod Commits
-pub mod Copied
-pub mod Counting
-pub mod Dues
-pub mod Ended
-pub mod FromTheEnd
-pub mod Known
-pub mod Laws
-pub mod Meant
-pub mod Others
-pub mod Parts
-pub mod Requests
-pub mod Said
-pub mod Serving
-pub mod Settling
-pub mod Slots
-pub mod Spots
-pub mod Stand
-pub mod Steps
-pub mod Turning
+mod AtFirst
+mod Clashes
+mod Commits
+mod Copied
+mod Counting
+mod Dues
+mod Ended
+mod FromTheEnd
+mod Known
+mod Laws
+mod Meant
+mod Others
+mod Parts
+mod Requests
+mod Said
+mod Serving
+mod Settling
+mod Slots
+mod Spots
+mod Stand
+mod Steps
+mod Turning

@@ -2,6 +2,8 @@
 use Rattle.std.proofs.Common.{◌≡◌, ℕ, Bool, true, false, List, [], ◌∷◌, ◌++◌, Option, Some, None, refl, sym, ap, ◌∙◌, subst}
 use Rattle.std.specs.Prelude.{◌||◌}
 use Rattle.std.specs.List.{list_any}
+use Rattle.std.proofs.lemmas.Bool.{or_parts}
+use Rattle.tl_lemmas.proofs.Tests.{never_both}
 use Rattle.tl_base.specs.declared.place.Settings.{Settings}
 use Rattle.tl_schema.specs.declared.catalog.Catalog.{Catalog}
 use Rattle.tl_descriptor.specs.Tids.{TidSet}
@@ -36,15 +38,7 @@ is_saying e = false
 abbrev pub are_saying : List Entry → Bool
 are_saying entries = list_any is_saying entries
 
-both_ways : (b : Bool) → b ≡ true → b ≡ false → ⊥
-both_ways b e f = cc
-
 -- ---- lists of entries
-
-cons_any : (a b : Bool) → (a || b) ≡ false → (a ≡ false) × (b ≡ false)
-cons_any false false e = (refl, refl)
-cons_any false true e = cc
-cons_any true b e = cc
 
 either_false : (a b : Bool) → a ≡ false → b ≡ false → (a || b) ≡ false
 either_false false false e f = refl
@@ -59,12 +53,12 @@ saying_said e f = refl
 pub unsaid_saying : (es : List Entry) → has_said es ≡ false → are_saying es ≡ false
 unsaid_saying [] f = refl
 unsaid_saying (e ∷ es) f =
-    let both = cons_any (is_said e) (has_said es) f in
+    let both = or_parts (is_said e) (has_said es) f in
     either_false (is_saying e) (are_saying es) (saying_said e both.0) (unsaid_saying es both.1)
 
 pub unsaid_whole : (es : List Entry) → has_said es ≡ false → unsaid es ≡ es
 unsaid_whole [] f = refl
-unsaid_whole (e ∷ es) f = let both = cons_any (is_said e) (has_said es) f in rw both.0 (ap (λ xs. e ∷ xs) (unsaid_whole es both.1))
+unsaid_whole (e ∷ es) f = let both = or_parts (is_said e) (has_said es) f in rw both.0 (ap (λ xs. e ∷ xs) (unsaid_whole es both.1))
 
 pub unsaid_not_said : (es : List Entry) → has_said (unsaid es) ≡ false
 unsaid_not_said [] = refl
@@ -81,13 +75,13 @@ answers_none e es f = refl
 pub answer_behind : (es ds : List Entry) → are_saying es ≡ false → answer_said (es ++ ds) ≡ answer_said ds
 answer_behind [] ds f = refl
 answer_behind (e ∷ es) ds f =
-    let both = cons_any (is_saying e) (are_saying es) f in
+    let both = or_parts (is_saying e) (are_saying es) f in
     answers_none e (es ++ ds) both.0 ∙ answer_behind es ds both.1
 
 pub answer_none : (es : List Entry) → are_saying es ≡ false → answer_said es ≡ answer.Begun
 answer_none [] f = refl
 answer_none (e ∷ es) f =
-    let both = cons_any (is_saying e) (are_saying es) f in
+    let both = or_parts (is_saying e) (are_saying es) f in
     answers_none e es both.0 ∙ answer_none es both.1
 
 -- the entry of a mark says no statement
@@ -120,13 +114,13 @@ module _ (settings : Settings) (catalog : Catalog) (n : Node) (statement : Bound
     where
       by : (left : List Read) → are_saying (says_read n statement t (Some (record after { left = left })) told) ≡ false
           → MeansRead catalog statement t (Some (record after { left = left })) told
-      by [] f = absurd (both_ways true refl f)
+      by [] f = absurd (never_both true refl f)
       by (read ∷ left) f = tt
 
   idle_meant : (b : Bound) (t : Txn) (floor : TidSet) → are_saying (says_idle n b t (Told (manager.FloorIs floor)) told) ≡ false → MeansIdle catalog b t told
   idle_meant bound.Begin t floor f = tt
   idle_meant (bound.Recover gone) t floor f = tt
-  idle_meant b t floor f = absurd (both_ways true refl f)
+  idle_meant b t floor f = absurd (never_both true refl f)
 
   inside_meant : (t : Txn) (course : Course) (h : Heard) → (course ≡ ToIdle → (floor : TidSet) × (h ≡ Told (manager.FloorIs floor)))
       → are_saying (says_inside settings n statement t course h told) ≡ false → MeansInside settings catalog statement t course h told
@@ -159,7 +153,7 @@ ending_quiet n told h = refl
 
 doing_ends : (settings : Settings) (catalog : Catalog) (commits : List Committed) (n : Node) (statement : Bound) (d : Doing) (h : Heard) (told : Answer)
     → has_said (says_doing settings catalog commits n statement d h told) ≡ true → is_ending d ≡ false
-doing_ends settings catalog commits n statement (Ending tid so) h told f = absurd (both_ways (has_said (says_ending n so h)) f (ending_quiet n so h))
+doing_ends settings catalog commits n statement (Ending tid so) h told f = absurd (never_both (has_said (says_ending n so h)) f (ending_quiet n so h))
 doing_ends settings catalog commits n statement d h told f = refl
 
 pub said_no_end : (settings : Settings) (catalog : Catalog) (commits : List Committed) (n : Node) (h : Heard) (told : Answer)
@@ -167,5 +161,5 @@ pub said_no_end : (settings : Settings) (catalog : Catalog) (commits : List Comm
 said_no_end settings catalog commits n h told f = by n.todo f
   where
     by : (todo : List Bound) → has_said (says_at settings catalog commits (record n { todo = todo }) h told) ≡ true → is_ending n.doing ≡ false
-    by [] f = absurd (both_ways true refl (sym f))
+    by [] f = absurd (never_both true refl (sym f))
     by (statement ∷ later) f = doing_ends settings catalog commits (record n { todo = statement ∷ later }) statement n.doing h told f

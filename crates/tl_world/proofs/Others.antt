@@ -1,7 +1,10 @@
 -- One event more: the world after it, by the slot of its node.
 use Rattle.std.proofs.Common.{◌≡◌, ◌⊎◌, ℕ, Bool, true, false, List, [], ◌∷◌, ◌++◌, length, Option, Some, None, append-nil, refl, sym, ap, ◌∙◌, subst, inl, inr}
 use Rattle.std.specs.Prelude.{◌==◌, ◌&&◌, ◌||◌, not}
-use Rattle.std.proofs.lemmas.Bool.{eqb-true}
+use Rattle.std.proofs.lemmas.Bool.{cases_Bool, eqb-true}
+use Rattle.std.proofs.lemmas.Option.{none-some}
+use Rattle.tl_lemmas.proofs.Tests.{or_without}
+use Rattle.tl_lemmas.proofs.Lists.{passes}
 use Rattle.tl_base.specs.declared.place.Settings.{Settings}
 use Rattle.tl_isolation.specs.declared.script.Script.{Script}
 use Rattle.tl_isolation.specs.declared.script.Session.{Session}
@@ -9,7 +12,6 @@ use Rattle.tl_isolation.specs.declared.script.Vanish.{Vanish}
 use Rattle.tl_isolation.specs.History.{IsHistory, state_after}
 use Rattle.tl_isolation.specs.Script.{setup_of}
 use Rattle.tl_isolation.specs.State.{opening_state}
-use Rattle.tl_isolation.proofs.Lookups.{passes}
 use Rattle.tl_protocol.proofs.Reached.{reached}
 use Rattle.tl_journal.specs.declared.event.Event.{Event}
 use Rattle.tl_journal.specs.Journal.{entries_told, has_vanished, is_post, node_after, posts, session_of}
@@ -28,13 +30,6 @@ use Rattle.tl_world.proofs.Commits.{commits_from, history_behind, tids}
 use Rattle.tl_world.proofs.Counting.{counted_stays, requests_stay}
 use Rattle.tl_world.proofs.Requests.{node_number}
 use Rattle.tl_world.proofs.Slots.{slot_elsewhere, slot_there}
-
-either : (b : Bool) → (b ≡ true) ⊎ (b ≡ false)
-either true = inl refl
-either false = inr refl
-
-none_some : {A : Type 0} (x : A) → ◌≡◌ {A = Option A} None (Some x) → ⊥
-none_some x e = cc
 
 pub run_of : (script : Script) (w : WorldValue) (R : Session → NodeValue → Type 0) → StandsAs R script w → IsRun script w.settings w.events
 run_of script w R s = record { bound = s.bound; shards = s.shards; few_shards = s.few_shards; managers = s.managers; few_managers = s.few_managers; few = s.few; trace = s.trace }
@@ -60,13 +55,9 @@ and_first : (a b : Bool) → a ≡ false → a && b ≡ false
 and_first false b e = refl
 and_first true b e = cc
 
-or_second : (a b : Bool) → b ≡ false → (a || b) ≡ a
-or_second true b e = refl
-or_second false b e = e
-
 module _ (script : Script) (settings : Settings) (past : List Event) (run : IsRun script settings past) (e : Event) where
   pub vanished_other : (n : ℕ) → (e.node == n) ≡ false → has_vanished (past ++ e ∷ []) n ≡ has_vanished past n
-  vanished_other n apart = vanished_more past e n ∙ or_second (has_vanished past n) (posts n e) (and_first (e.node == n) (is_post e.request) apart)
+  vanished_other n apart = vanished_more past e n ∙ or_without (has_vanished past n) (posts n e) (and_first (e.node == n) (is_post e.request) apart)
 
   pub node_other : (session : Session) → session_of script session.node ≡ Some session → (e.node == session.node) ≡ false → has_vanished past session.node ≡ false
       → node_after settings script (past ++ e ∷ []) session ≡ node_after settings script past session
@@ -135,7 +126,7 @@ module _ (script : Script) (w : WorldValue) (R S : Session → NodeValue → Typ
       (slot_so (R other) (IsRunning script w.settings w.events other) script w.events other x (λ v. ran other v away) h))
 
   each_slot : (node : ℕ) → HasSlot S script (w.events ++ e ∷ []) (session_of script node) (slot_of (with_slot slot w.slots) node)
-  each_slot node = by (either (e.node == node))
+  each_slot node = by (cases_Bool (e.node == node))
     where
       by : (e.node == node ≡ true) ⊎ (e.node == node ≡ false) → HasSlot S script (w.events ++ e ∷ []) (session_of script node) (slot_of (with_slot slot w.slots) node)
       by (inl f) =

@@ -3,10 +3,11 @@ use Rattle.std.proofs.Common.{◌≡◌, ◌⊎◌, ℕ, ◌<◌, ◌≤◌, Boo
 use Rattle.std.specs.Prelude.{◌&&◌, ◌^◌, nat_le, not}
 use Rattle.std.specs.Option.{is_some}
 use Rattle.std.proofs.lemmas.Bool.Decides.{nat_tests}
+use Rattle.std.proofs.lemmas.Bool.{leb-true}
+use Rattle.std.proofs.lemmas.Option.{same_Some}
 use Rattle.tl_isolation.specs.declared.entry.Ending.{Ending}
 use Rattle.tl_isolation.specs.declared.entry.Ending.TheVariants as ending_of
 use Rattle.tl_isolation.specs.declared.script.Script.{Script}
-use Rattle.tl_protocol.proofs.Frames.{some_same}
 use Rattle.tl_node.specs.View.{NodeValue}
 use Rattle.tl_world.specs.declared.world.Turned.{Turned}
 use Rattle.tl_world.specs.declared.world.Turned.TheVariants as turned_so
@@ -33,16 +34,13 @@ one_of true true e = absurd (none_false e)
 one_of true false e = inr refl
 one_of false b e = inl refl
 
-at_most : (n m : ℕ) → nat_le n m ≡ true → n ≤ m
-at_most n m e = grind (arith, nat_tests)
-
 more_than : (n m : ℕ) → nat_le n m ≡ false → m < n
 more_than n m e = grind (arith, nat_tests)
 
 spent_parts : (slot : SlotValue) (budget most : ℕ) → budget ≡ most → spent_by slot budget ≡ true → (has_more slot.node ≡ true) × (most ≤ slot.made)
 spent_parts slot budget most e h =
     let both = both_of (has_more slot.node) (nat_le budget slot.made) h in
-    (both.0, subst (λ (k : ℕ). k ≤ slot.made) e (at_most budget slot.made both.1))
+    (both.0, subst (λ (k : ℕ). k ≤ slot.made) e (leb-true budget slot.made both.1))
 
 spent_not : (slot : SlotValue) (budget most : ℕ) → budget ≡ most → spent_by slot budget ≡ false → (has_more slot.node ≡ false) ⊎ (slot.made < most)
 spent_not slot budget most e h = by (one_of (has_more slot.node) (nat_le budget slot.made) h)
@@ -55,7 +53,7 @@ spent_not slot budget most e h = by (one_of (has_more slot.node) (nat_le budget 
 pub any_slot : (slots : List SlotValue) (number at : ℕ) → spot 0 slots number ≡ Some at → (slot : SlotValue) → slot ≡ slice_index_or slots at slot → (d : SlotValue)
     → slice_index_or slots at d ≡ slot
 any_slot slots number at there slot is d =
-    some_same (slice_index_or slots at d) (slice_index_or slots at slot) (sym (slot_was slots number at there d) ∙ slot_was slots number at there slot) ∙ sym is
+    same_Some (slice_index_or slots at d) (slice_index_or slots at slot) (sym (slot_was slots number at there d) ∙ slot_was slots number at there slot) ∙ sym is
 
 -- what is read there twice is the same
 pub due_again : (slots : List SlotValue) (number at : ℕ) → spot 0 slots number ≡ Some at → (slot : SlotValue) → slot ≡ slice_index_or slots at slot → (again : SlotValue)

@@ -1,7 +1,10 @@
 -- One request more: the event that it is, and the node after it.
 use Rattle.std.proofs.Common.{◌≡◌, ◌⊎◌, ℕ, ◌+◌, ◌<◌, Bool, true, false, List, [], ◌∷◌, ◌++◌, length, Some, append-nil, refl, sym, ap, ◌∙◌, subst, inl, inr}
 use Rattle.std.specs.Prelude.{◌^◌, ◌&&◌, not, if◌then◌else◌}
-use Rattle.std.proofs.lemmas.Bool.{or_parts}
+use Rattle.std.proofs.lemmas.Bool.{cases_Bool, or_parts}
+use Rattle.std.proofs.lemmas.Option.{same_Some}
+use Rattle.std.proofs.lemmas.List.{length_push}
+use Rattle.tl_lemmas.proofs.Tests.{and_not}
 use Rattle.tl_base.specs.Along.{Along-append}
 use Rattle.tl_base.specs.declared.place.Settings.{Settings}
 use Rattle.tl_descriptor.specs.Tids.{TidSet}
@@ -23,7 +26,6 @@ use Rattle.tl_isolation.specs.declared.script.Session.{Session}
 use Rattle.tl_isolation.specs.declared.state.Commit.{Commit}
 use Rattle.tl_isolation.specs.History.{state_after}
 use Rattle.tl_isolation.specs.Script.{setup_of}
-use Rattle.tl_protocol.proofs.Frames.{some_same}
 use Rattle.tl_journal.specs.declared.event.Event.{Event}
 use Rattle.tl_journal.specs.Ask.{Ask, AskManager, Heard, Told}
 use Rattle.tl_journal.specs.Asks.{asks, asks_inside}
@@ -41,7 +43,6 @@ use Rattle.tl_journal.proofs.Journals.{stood_at}
 use Rattle.tl_journal.proofs.Logs.{at_event, manager_replies, node_more}
 use Rattle.tl_journal.proofs.Opens.{layout_of}
 use Rattle.tl_journal.proofs.Posted.{home_among}
-use Rattle.tl_journal.proofs.StoreEvents.{length_next}
 use Rattle.tl_journal.proofs.Requests.{request_no_post}
 use Rattle.tl_journal.proofs.Stood.{Stood, vanished_same}
 use Rattle.tl_journal.proofs.StrangeHeard.{heard_as_said, stops_alike}
@@ -73,15 +74,6 @@ pub record Makes (script : Script) (settings : Settings) (past : List Event) (nu
   pub few : length past + 1 < 2 ^ 32
   pub rows : length script.rows < 2 ^ 32
 
-cut_so : (a b : Bool) → a ≡ true → b ≡ false → (a && not b) ≡ true
-cut_so true false e f = refl
-cut_so true true e f = cc
-cut_so false b e f = cc
-
-either : (b : Bool) → (b ≡ true) ⊎ (b ≡ false)
-either true = inl refl
-either false = inr refl
-
 module _ (script : Script) (settings : Settings) (past : List Event) (run : IsRun script settings past) where
   stood : Stood (layout_of script settings) script settings past
   stood = stood_at script settings past [] (subst (IsRun script settings) (sym (append-nil past)) run)
@@ -95,7 +87,7 @@ module _ (script : Script) (settings : Settings) (past : List Event) (run : IsRu
   -- one event more
   pub grows : (e : Event) → length past + 1 < 2 ^ 32 → AreServed script settings (past ++ e ∷ []) → IsEvent script settings past e → IsRun script settings (past ++ e ∷ [])
   grows e few served is =
-      let more : length (past ++ e ∷ []) ≡ length past + 1 = length_next past e in
+      let more : length (past ++ e ∷ []) ≡ length past + 1 = length_push past e in
       record {
         bound = run.bound;
         shards = run.shards;
@@ -151,7 +143,7 @@ module _ (script : Script) (settings : Settings) (past : List Event) (run : IsRu
     heeds_of [] d e = tt
     heeds_of (statement ∷ later) (Inside t) e = λ to_idle.
         floor_told (home_of settings node.number) t.snapshot
-        (some_same (AskManager (home_of settings node.number) (asked_of.Floor t.snapshot)) ask
+        (same_Some (AskManager (home_of settings node.number) (asked_of.Floor t.snapshot)) ask
         (ap (λ c. Some (asks_inside settings (record node { todo = statement ∷ later; doing = Inside t }) t c)) (sym to_idle) ∙ e))
         (home_among settings node.number run.managers)
     heeds_of (statement ∷ later) d e = tt
@@ -190,7 +182,7 @@ module _ (script : Script) (settings : Settings) (past : List Event) (run : IsRu
         → is_cut settings script.catalog node (heard ask p) (answer_said entries) entries ≡ true
     is_cut_off entries e f =
         ap (λ x. is_cut settings script.catalog node (heard ask p) x entries) (none_answered entries e)
-        ∙ cut_so (has_said (says_at settings script.catalog [] node (heard ask p) answer.Begun)) (has_said entries)
+        ∙ and_not (has_said (says_at settings script.catalog [] node (heard ask p) answer.Begun)) (has_said entries)
         (sym (said_same settings script.catalog commits node (heard ask p) answer.Begun) ∙ f) (ap has_said e ∙ unsaid_not_said (says answer.Begun))
 
     -- told but for what would be said
@@ -212,7 +204,7 @@ module _ (script : Script) (settings : Settings) (past : List Event) (run : IsRu
 
     -- whatever is told, there is such an event, so the reply isn't strange
     some_event : (entries : List Entry) × IsEvent script settings past (event entries)
-    some_event = by (either (has_said (says answer.Begun)))
+    some_event = by (cases_Bool (has_said (says answer.Begun)))
       where
         by : (has_said (says answer.Begun) ≡ true) ⊎ (has_said (says answer.Begun) ≡ false) → (entries : List Entry) × IsEvent script settings past (event entries)
         by (inl f) = (unsaid (says answer.Begun), inr (inr (cut_off (unsaid (says answer.Begun)) refl f)))
@@ -325,7 +317,7 @@ module _ (script : Script) (settings : Settings) (past : List Event) (run : IsRu
 
     left_so : (v : NodeValue) (m : Mark) → WantsAs settings script.catalog node (heard ask p) p m v
         → (unsaid (says answer.Begun) ≡ marked commits node.number p m) ⊎ (says answer.Begun ≡ marked commits node.number p m) → Happens v m rest.NoMemory
-    left_so v m w e = by (either (has_said (says answer.Begun))) e
+    left_so v m w e = by (cases_Bool (has_said (says answer.Begun))) e
       where
         entries : List Entry
         entries = marked commits node.number p m

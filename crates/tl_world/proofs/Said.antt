@@ -1,6 +1,8 @@
 -- What is told of what is said.
 use Rattle.std.proofs.Common.{◌≡◌, ℕ, ◌<◌, Bool, true, false, List, [], ◌∷◌, length, drop, Option, Some, refl, sym, ap, ◌∙◌, arith}
 use Rattle.std.specs.Prelude.{not, slice_get, zero, suc}
+use Rattle.std.proofs.lemmas.Bool.{not-true}
+use Rattle.tl_lemmas.proofs.Tests.{never_both}
 use Rattle.tl_manager.specs.declared.mark.Mark.{Mark}
 use Rattle.tl_manager.specs.declared.mark.Mark.TheVariants as mark
 use Rattle.tl_isolation.specs.declared.bound.Bound.{Bound}
@@ -25,19 +27,12 @@ pub said_late : (number : ℕ) (b : Bound) (m : Mark) (said : Said) → is_answe
 said_late number b mark.Answered said e = refl
 said_late number b m said e = cc
 
-both_ways : (b : Bool) → b ≡ true → b ≡ false → ⊥
-both_ways b e f = cc
-
 -- where something is left
 pub left_within : (xs : List Bound) (n : ℕ) → is_empty (drop n xs) ≡ false → n < length xs
-left_within [] zero e = absurd (both_ways true refl e)
-left_within [] (suc n) e = absurd (both_ways true refl e)
+left_within [] zero e = absurd (never_both true refl e)
+left_within [] (suc n) e = absurd (never_both true refl e)
 left_within (x ∷ xs) zero e = omega arith
 left_within (x ∷ xs) (suc n) e = let h : n < length xs = left_within xs n e in omega arith
 
-not_both : (b : Bool) → not b ≡ true → b ≡ false
-not_both false e = refl
-not_both true e = cc
-
 pub more_within : (xs todo : List Bound) (n : ℕ) → todo ≡ drop n xs → not (is_empty todo) ≡ true → n < length xs
-more_within xs todo n e h = left_within xs n (ap is_empty (sym e) ∙ not_both (is_empty todo) h)
+more_within xs todo n e h = left_within xs n (ap is_empty (sym e) ∙ not-true (is_empty todo) h)

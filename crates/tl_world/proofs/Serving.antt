@@ -1,8 +1,9 @@
 -- A request and a death notice, by what becomes of the slots of a world.
 use Rattle.std.proofs.Common.{◌≡◌, ◌⊎◌, ℕ, ◌+◌, ◌<◌, Bool, true, false, List, [], ◌∷◌, ◌++◌, length, slice_index_or, slice_set, Some, refl, sym, ap, ◌∙◌, subst, inl, inr, arith}
 use Rattle.std.specs.Prelude.{◌==◌, ◌^◌, zero, suc}
-use Rattle.std.proofs.lemmas.Bool.{eq-eqb}
+use Rattle.std.proofs.lemmas.Bool.{cases_Bool, eq-eqb}
 use Rattle.std.proofs.lemmas.List.{get_or-set_same}
+use Rattle.std.proofs.lemmas.Option.{same_Some}
 use Rattle.tl_base.specs.declared.place.PlaceId.TheVariants as place
 use Rattle.tl_manager.specs.declared.request.ManagerReply.TheVariants as manager
 use Rattle.tl_manager.specs.declared.request.ManagerRequest.{ManagerRequest}
@@ -14,7 +15,6 @@ use Rattle.tl_isolation.specs.declared.entry.Ending.{Ending}
 use Rattle.tl_isolation.specs.declared.entry.Entry.{Entry}
 use Rattle.tl_isolation.specs.declared.entry.Entry.TheVariants as entry
 use Rattle.tl_isolation.specs.declared.script.Script.{Script}
-use Rattle.tl_protocol.proofs.Frames.{some_same}
 use Rattle.tl_journal.specs.declared.event.Event.{Event}
 use Rattle.tl_journal.specs.Bytes.{home_of}
 use Rattle.tl_journal.specs.Node.{owed_by}
@@ -30,14 +30,10 @@ use Rattle.tl_world.proofs.Laws.{own_suits_runs}
 use Rattle.tl_world.proofs.Spots.{StandsThere, spot_is}
 use Rattle.tl_world.proofs.Steps.{counted_slot, ends_of, goes_of, served_event}
 
-either : (b : Bool) → (b ≡ true) ⊎ (b ≡ false)
-either true = inl refl
-either false = inr refl
-
 -- a slot keeps its place where another one of its number takes it
 spot_with : (slots : List SlotValue) (x : SlotValue) (number k : ℕ) → x.number ≡ number → spot k (with_slot x slots) number ≡ spot k slots number
 spot_with [] x number k own = refl
-spot_with (s ∷ slots) x number k own = by (either (s.number == x.number)) (spot_with slots x number (k + 1) own)
+spot_with (s ∷ slots) x number k own = by (cases_Bool (s.number == x.number)) (spot_with slots x number (k + 1) own)
   where
     by : (s.number == x.number ≡ true) ⊎ (s.number == x.number ≡ false) → spot (k + 1) (with_slot x slots) number ≡ spot (k + 1) slots number
         → spot k (with_slot x (s ∷ slots)) number ≡ spot k (s ∷ slots) number
@@ -74,7 +70,7 @@ module _ (slots : List SlotValue) (number at : ℕ) (there : spot 0 slots number
   spot_put x own = ap (λ xs. spot 0 xs number) (slot_put x own) ∙ spot_with slots x number 0 own ∙ there
 
   pub index_same : (x y : SlotValue) → x ≡ slice_index_or slots at x → y ≡ slice_index_or slots at y → x ≡ y
-  index_same x y e f = e ∙ some_same (slice_index_or slots at x) (slice_index_or slots at y) (sym (slot_was x) ∙ slot_was y) ∙ sym f
+  index_same x y e f = e ∙ same_Some (slice_index_or slots at x) (slice_index_or slots at y) (sym (slot_was x) ∙ slot_was y) ∙ sym f
 
   pub put_is : (x d : SlotValue) → slice_index_or (slice_set slots at x) at d ≡ x
   put_is x d = get_or-set_same slots at x d is_within

@@ -1,7 +1,7 @@
 -- Who owes a death notice after one event more, and how the nodes may have ended.
 use Rattle.std.proofs.Common.{◌≡◌, ◌⊎◌, ℕ, ◌+◌, Bool, true, false, List, [], ◌∷◌, ◌++◌, length, nat_lt, Option, Some, None, refl, sym, ap, ◌∙◌, subst, inl, inr, arith}
 use Rattle.std.specs.Prelude.{◌==◌, ◌&&◌, ◌||◌, nat_le, not, if◌then◌else◌}
-use Rattle.std.proofs.lemmas.Bool.{eqb-true}
+use Rattle.std.proofs.lemmas.Bool.{and_from, and_left, cases_Bool, eqb-true, or_right}
 use Rattle.std.proofs.lemmas.Bool.Decides.{nat_tests}
 use Rattle.tl_base.specs.declared.place.Settings.{Settings}
 use Rattle.tl_isolation.specs.declared.entry.Ending.{Ending}
@@ -27,10 +27,6 @@ use Rattle.tl_world.proofs.Counting.{counted_stays, made_more, requests_stay}
 use Rattle.tl_world.proofs.Others.{node_other, vanish_own, vanished_other}
 
 -- ---- tests
-
-and_first : (a b : Bool) → a ≡ false → (a && b) ≡ false
-and_first false b e = refl
-and_first true b e = absurd cc
 
 false_true : {A : Type 0} → false ≡ true → A
 false_true e = absurd cc
@@ -69,18 +65,6 @@ all_so true false false a g m = absurd cc
 some_asked : (n m : ℕ) → n ≡ m + 1 → nat_lt 0 n ≡ true
 some_asked n m e = grind (arith, nat_tests)
 
-either : (b : Bool) → (b ≡ true) ⊎ (b ≡ false)
-either true = inl refl
-either false = inr refl
-
-or_second : (a b : Bool) → b ≡ true → (a || b) ≡ true
-or_second true b e = refl
-or_second false b e = e
-
-both : (a b : Bool) → a ≡ true → b ≡ true → (a && b) ≡ true
-both true b e f = f
-both false b e f = absurd cc
-
 same_number : (n m : ℕ) → n ≡ m → (n == m) ≡ true
 same_number n m e = grind (arith, nat_tests)
 
@@ -118,7 +102,7 @@ module _ (script : Script) (settings : Settings) where
         by None f = rw f refl
         by (Some v) f =
             let same : counted_by (Some v) (past ++ e ∷ []) ≡ counted_by (Some v) past =
-            counted_stays past e (Some v) k (vanish_own script k (Some v) (sym f)) (and_first (e.node == k) (not (is_post e.request)) apart) in
+            counted_stays past e (Some v) k (vanish_own script k (Some v) (sym f)) (and_left (e.node == k) (not (is_post e.request)) apart) in
             rw f (ap (λ (n : ℕ). nat_le v.count n) same)
 
     cut_other : (k : ℕ) → (e.node == k) ≡ false → has_vanished past k ≡ false → was_cut script settings (past ++ e ∷ []) k ≡ was_cut script settings past k
@@ -135,13 +119,13 @@ module _ (script : Script) (settings : Settings) where
 
     -- an event of another node leaves it so
     pub owes_other : (k : ℕ) → (e.node == k) ≡ false → owes_notice script settings past k ≡ false → owes_notice script settings (past ++ e ∷ []) k ≡ false
-    owes_other k apart none = by (either (has_vanished past k))
+    owes_other k apart none = by (cases_Bool (has_vanished past k))
       where
         gone : has_vanished (past ++ e ∷ []) k ≡ has_vanished past k
         gone = vanished_other script settings past run e k apart
 
         requests : requests_of k (past ++ e ∷ []) ≡ requests_of k past
-        requests = requests_stay past e k (and_first (e.node == k) (not (is_post e.request)) apart)
+        requests = requests_stay past e k (and_left (e.node == k) (not (is_post e.request)) apart)
 
         by : (has_vanished past k ≡ true) ⊎ (has_vanished past k ≡ false) → owes_notice script settings (past ++ e ∷ []) k ≡ false
         by (inl h) = owes_gone (past ++ e ∷ []) k (gone ∙ h)
@@ -160,7 +144,7 @@ module _ (script : Script) (settings : Settings) where
 
   pub settled_so : (events : List Event) (number : ℕ) → SettledBut number events → owes_notice script settings events number ≡ false → (k : ℕ)
       → owes_notice script settings events k ≡ false
-  settled_so events number h own k = by (either (number == k))
+  settled_so events number h own k = by (cases_Bool (number == k))
     where
       by : (number == k ≡ true) ⊎ (number == k ≡ false) → owes_notice script settings events k ≡ false
       by (inl e) = ap (owes_notice script settings events) (sym (eqb-true number k e)) ∙ own
@@ -171,7 +155,7 @@ module _ (script : Script) (settings : Settings) where
   -- the node has vanished, once its notice stands
   pub gone_then : (past : List Event) (e : Event) (n : ℕ) (so : Ending) → IsNotice n so e → has_vanished (past ++ e ∷ []) n ≡ true
   gone_then past e n so h =
-      vanished_more past e n ∙ or_second (has_vanished past n) (posts n e) (both (e.node == n) (is_post e.request) (same_number e.node n h.of_node) h.notice)
+      vanished_more past e n ∙ or_right (has_vanished past n) (posts n e) (and_from (e.node == n) (is_post e.request) (same_number e.node n h.of_node) h.notice)
 
   pub may_end : (past : List Event) (n : ℕ) (so : Ending) → EndsSo script settings past n so → MayEnd script settings past n so
   may_end past n ending_of.Vanished h = inl h

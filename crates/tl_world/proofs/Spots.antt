@@ -1,8 +1,8 @@
 -- Where a slot stands among the others.
 use Rattle.std.proofs.Common.{◌≡◌, ◌⊎◌, ℕ, ◌+◌, ◌<◌, Bool, true, false, List, [], ◌∷◌, length, slice_index_or, slice_set, Option, Some, None, refl, sym, ap, ◌∙◌, inl, inr, arith}
 use Rattle.std.specs.Prelude.{◌==◌, suc}
-use Rattle.std.proofs.lemmas.Bool.{eqb-true}
-use Rattle.tl_protocol.proofs.Frames.{some_same}
+use Rattle.std.proofs.lemmas.Bool.{cases_Bool, eqb-true}
+use Rattle.std.proofs.lemmas.Option.{same_Some}
 use Rattle.tl_world.specs.Stands.{SlotValue, slot_of, with_slot}
 use Rattle.tl_world.specs.Slot.{spot}
 
@@ -20,10 +20,6 @@ none_some n e = cc
 
 some_none : (n : ℕ) → ◌≡◌ {A = Option ℕ} (Some n) None → ⊥
 some_none n e = cc
-
-either : (b : Bool) → (b ≡ true) ⊎ (b ≡ false)
-either true = inl refl
-either false = inr refl
 
 plus_zero : (k at : ℕ) → k ≡ at → at ≡ k + 0
 plus_zero k at e = omega arith
@@ -50,13 +46,13 @@ module _ (s : SlotValue) (slots : List SlotValue) (number : ℕ) (f : (s.number 
 
 pub spot_is : (slots : List SlotValue) (number k at : ℕ) → spot k slots number ≡ Some at → StandsThere slots number k at
 spot_is [] number k at e = absurd (none_some at e)
-spot_is (s ∷ slots) number k at e = by (either (s.number == number)) (spot_is slots number (k + 1) at)
+spot_is (s ∷ slots) number k at e = by (cases_Bool (s.number == number)) (spot_is slots number (k + 1) at)
   where
     by : (s.number == number ≡ true) ⊎ (s.number == number ≡ false) → (spot (k + 1) slots number ≡ Some at → StandsThere slots number (k + 1) at)
         → StandsThere (s ∷ slots) number k at
     by (inl f) more = record {
       behind = 0;
-      at_is = plus_zero k at (some_same k at (sym (rw f refl) ∙ e));
+      at_is = plus_zero k at (same_Some k at (sym (rw f refl) ∙ e));
       within = some_first (length slots);
       slot_is = λ d. rw f refl;
       number_is = λ d. eqb-true s.number number f;
@@ -75,7 +71,7 @@ spot_is (s ∷ slots) number k at e = by (either (s.number == number)) (spot_is 
 
 pub spot_none : (slots : List SlotValue) (number k : ℕ) → spot k slots number ≡ None → slot_of slots number ≡ None
 spot_none [] number k e = refl
-spot_none (s ∷ slots) number k e = by (either (s.number == number)) (spot_none slots number (k + 1))
+spot_none (s ∷ slots) number k e = by (cases_Bool (s.number == number)) (spot_none slots number (k + 1))
   where
     by : (s.number == number ≡ true) ⊎ (s.number == number ≡ false) → (spot (k + 1) slots number ≡ None → slot_of slots number ≡ None) → slot_of (s ∷ slots) number ≡ None
     by (inl f) more = absurd (some_none k (sym (rw f refl) ∙ e))

@@ -2,7 +2,8 @@
 use Rattle.std.proofs.Common.{◌≡◌, ℕ, ◌+◌, ◌<◌, Bool, true, false, List, [], ◌∷◌, ◌++◌, length, Option, Some, refl, sym, ap, ◌∙◌, subst, inl, inr}
 use Rattle.std.specs.Prelude.{◌==◌, ◌&&◌, ◌||◌, ◌^◌, not}
 use Rattle.std.specs.List.{AllByRecursion}
-use Rattle.std.proofs.lemmas.Bool.{eq-eqb}
+use Rattle.std.proofs.lemmas.Bool.{eq-eqb, or_right}
+use Rattle.tl_lemmas.proofs.Lists.{all_push}
 use Rattle.tl_base.specs.declared.place.PlaceId.TheVariants as place
 use Rattle.tl_manager.specs.declared.mark.Mark.{Mark}
 use Rattle.tl_manager.specs.declared.request.ManagerRequest.{ManagerRequest}
@@ -45,10 +46,6 @@ use Rattle.tl_world.proofs.Known.{HasSession, asked_some, but_left, but_runs, ha
 use Rattle.tl_world.proofs.Others.{run_of, stands_more, vanish_own}
 use Rattle.tl_world.proofs.Requests.{Happens, Makes, event_of, first, grows, happens, left_unsaid, node_number, sane}
 
-all_append : {A : Type 0} (P : A → Type 0) (xs : List A) (x : A) → AllByRecursion P xs → P x → AllByRecursion P (xs ++ x ∷ [])
-all_append P [] x h g = (g, tt)
-all_append P (y ∷ ys) x h g = (h.0, all_append P ys x h.1 g)
-
 -- the node of a slot runs so
 pub there_is : (P : NodeValue → Type 0) (events : List Event) (n : ℕ) (o : Option NodeValue) (v : NodeValue) → IsNode P events n o → o ≡ Some v
     → (has_vanished events n ≡ false) × P v
@@ -87,7 +84,7 @@ module _ (served_law : LogsAreServed) (own_law : OwnSuitsRuns) (script : Script)
     all_served : (entries : List Entry) → AreServed script w.settings (w.events ++ event entries ∷ [])
     all_served entries =
         served_law script w.settings (w.events ++ event entries ∷ []) q (at entries)
-        (all_append (λ (e : Event). IsCall e.place e.request e.reply) w.events (event entries) s.trace.served.calls call)
+        (all_push (λ (e : Event). IsCall e.place e.request e.reply) w.events (event entries) s.trace.served.calls call)
 
     makes : Makes script w.settings w.events number session ask p
     makes = record { is_session = k.is_session; runs = runs; asked = asks_it; served = all_served; few = few; rows = s.few_rows }
@@ -264,10 +261,6 @@ module _ (served_law : LogsAreServed) (own_law : OwnSuitsRuns) (script : Script)
 
 -- ---- a death notice
 
-or_true : (x y : Bool) → y ≡ true → (x || y) ≡ true
-or_true true y e = refl
-or_true false y e = e
-
 module _ (served_law : LogsAreServed) (script : Script) (w : WorldValue) (number : ℕ) (s : StandsBut number script w) (few : length w.events + 1 < 2 ^ 32)
     (slot : SlotValue) (v : NodeValue) (was : slot_of w.slots number ≡ Some slot) (there : slot.node ≡ Some v) (p : Reply) (q : PlacesState) (ending : Ending) where
   abbrev notice : ManagerRequest
@@ -306,7 +299,7 @@ module _ (served_law : LogsAreServed) (script : Script) (w : WorldValue) (number
       (ap (slot_of w.slots) own ∙ was) own
       (record {
         node_is = vanished_more w.events posted gone.session.node
-            ∙ or_true (has_vanished w.events gone.session.node) (posts gone.session.node posted) (both_so (number == gone.session.node) (eq-eqb number gone.session.node (sym gone.own)));
+            ∙ or_right (has_vanished w.events gone.session.node) (posts gone.session.node posted) (both_so (number == gone.session.node) (eq-eqb number gone.session.node (sym gone.own)));
         made_is = gone.is_slot.made_is ∙ ap length (sym (requests_stay w.events posted gone.session.node other));
         counted_is = gone.is_slot.counted_is
             ∙ sym (counted_stays w.events posted slot.vanish gone.session.node (vanish_own script gone.session.node slot.vanish gone.is_slot.vanish_is) other);
@@ -314,7 +307,7 @@ module _ (served_law : LogsAreServed) (script : Script) (w : WorldValue) (number
       })
       (grows script w.settings w.events (run_of script w (IsRunningBut number script w.settings w.events) s) posted few
       (served_law script w.settings (w.events ++ posted ∷ []) q at
-      (all_append (λ (e : Event). IsCall e.place e.request e.reply) w.events posted s.trace.served.calls call))
+      (all_push (λ (e : Event). IsCall e.place e.request e.reply) w.events posted s.trace.served.calls call))
       (inr (inl is)))
       at
     where

@@ -2,6 +2,7 @@
 use Rattle.std.proofs.Common.{◌≡◌, ◌⊎◌, ℕ, ◌<◌, ◌≤◌, Bool, true, false, List, [], ◌∷◌, ◌++◌, length, Option, Some, None, append-nil, refl, sym, ap, ◌∙◌, subst, inl, inr, arith}
 use Rattle.std.specs.Prelude.{nat_le, not, ◌&&◌, ◌||◌}
 use Rattle.std.proofs.lemmas.Bool.Decides.{nat_tests}
+use Rattle.std.proofs.lemmas.Bool.{and_from, and_left, le-leb, not-false, not-true, or_left}
 use Rattle.tl_base.specs.declared.place.Settings.{Settings}
 use Rattle.tl_isolation.specs.declared.entry.Ending.{Ending}
 use Rattle.tl_isolation.specs.declared.entry.Ending.TheVariants as ending_of
@@ -31,27 +32,10 @@ true_false e = cc
 false_true : false ≡ true → ⊥
 false_true e = cc
 
-not_true : (b : Bool) → not b ≡ true → b ≡ false
-not_true false e = refl
-not_true true e = absurd (false_true e)
-
-not_false : (b : Bool) → not b ≡ false → b ≡ true
-not_false true e = refl
-not_false false e = absurd (true_false e)
-
 -- it runs, and has more to do
 pub more_there : (o : Option NodeValue) → has_more o ≡ true → (v : NodeValue) × (o ≡ Some v)
 more_there None e = absurd (false_true e)
 more_there (Some v) e = (v, refl)
-
-both_true : (a b : Bool) → a ≡ true → b ≡ true → (a && b) ≡ true
-both_true true true e f = refl
-both_true true false e f = absurd (false_true f)
-both_true false b e f = absurd (false_true e)
-
-left_false : (a b : Bool) → a ≡ false → (a && b) ≡ false
-left_false false b e = refl
-left_false true b e = absurd (true_false e)
 
 right_false : (a b : Bool) → b ≡ false → (a && b) ≡ false
 right_false true b e = e
@@ -63,13 +47,6 @@ or_as true b true e f = refl
 or_as true b false e f = absurd (true_false e)
 or_as false b true e f = absurd (false_true e)
 or_as false b false e f = f
-
-left_true : (a b : Bool) → a ≡ true → (a || b) ≡ true
-left_true true b e = refl
-left_true false b e = absurd (false_true e)
-
-reached : (n m : ℕ) → n ≤ m → nat_le n m ≡ true
-reached n m h = grind (arith, nat_tests)
 
 not_reached : (n m : ℕ) → m < n → nat_le n m ≡ false
 not_reached n m h = grind (arith, nat_tests)
@@ -93,8 +70,8 @@ module _ (script : Script) (w : WorldValue) (s : StandsOn script w) (number : �
     pub nothing_left : (o : Option NodeValue) → slot.node ≡ o → has_more o ≡ false → is_over script w.events number ≡ true
     nothing_left None e h = over_gone script w (IsRunning script w.settings w.events) s number slot was e
     nothing_left (Some v) e h =
-        left_true (is_done script w.events number) (has_vanished w.events number)
-        (done_is script w s number slot v was e ∙ not_false (is_empty v.node.todo) h)
+        or_left (is_done script w.events number) (has_vanished w.events number)
+        (done_is script w s number slot v was e ∙ not-false (is_empty v.node.todo) h)
 
     -- a node that runs hasn't vanished, and wanted no memory
     pub runs_on : (v : NodeValue) → slot.node ≡ Some v → has_vanished w.events number ≡ false
@@ -133,7 +110,7 @@ module _ (script : Script) (w : WorldValue) (s : StandsOn script w) (number : �
 
     not_done : (o : Option NodeValue) → slot.node ≡ o → has_more o ≡ true → is_done script w.events number ≡ false
     not_done None e h = absurd (false_true h)
-    not_done (Some v) e h = done_is script w s number slot v was e ∙ not_true (is_empty v.node.todo) h
+    not_done (Some v) e h = done_is script w s number slot v was e ∙ not-true (is_empty v.node.todo) h
 
     pub left_to_do : has_more slot.node ≡ true → is_done script w.events number ≡ false
     left_to_do h = not_done slot.node refl h
@@ -147,24 +124,24 @@ module _ (script : Script) (w : WorldValue) (s : StandsOn script w) (number : �
     pub spent_so : has_more slot.node ≡ true → w.settings.budget ≤ slot.made → is_spent script w.settings w.events number ≡ true
     spent_so more used =
         let v = more_there slot.node more in
-        both_true (nat_le w.settings.budget (length (requests_of number w.events)))
+        and_from (nat_le w.settings.budget (length (requests_of number w.events)))
         (not (is_done script w.events number) && not (was_cut script w.settings w.events number))
-        (reached w.settings.budget (length (requests_of number w.events)) (subst (λ k. w.settings.budget ≤ k) made_so used))
-        (both_true (not (is_done script w.events number)) (not (was_cut script w.settings w.events number)) (ap not (left_to_do more)) (ap not (uncut v.0 v.1)))
+        (le-leb w.settings.budget (length (requests_of number w.events)) (subst (λ k. w.settings.budget ≤ k) made_so used))
+        (and_from (not (is_done script w.events number)) (not (was_cut script w.settings w.events number)) (ap not (left_to_do more)) (ap not (uncut v.0 v.1)))
 
     done_so : (v : NodeValue) → slot.node ≡ Some v → has_more slot.node ≡ false → not (is_done script w.events number) ≡ false
     done_so v e h =
         let k : not (is_empty v.node.todo) ≡ false = ap has_more (sym e) ∙ h in
-        ap not (done_is script w s number slot v was e ∙ not_false (is_empty v.node.todo) k)
+        ap not (done_is script w s number slot v was e ∙ not-false (is_empty v.node.todo) k)
 
     pub not_spent : (v : NodeValue) → slot.node ≡ Some v → (has_more slot.node ≡ false) ⊎ (slot.made < w.settings.budget)
         → is_spent script w.settings w.events number ≡ false
     not_spent v e (inl h) =
         right_false (nat_le w.settings.budget (length (requests_of number w.events)))
         (not (is_done script w.events number) && not (was_cut script w.settings w.events number))
-        (left_false (not (is_done script w.events number)) (not (was_cut script w.settings w.events number)) (done_so v e h))
+        (and_left (not (is_done script w.events number)) (not (was_cut script w.settings w.events number)) (done_so v e h))
     not_spent v e (inr h) =
-        left_false (nat_le w.settings.budget (length (requests_of number w.events)))
+        and_left (nat_le w.settings.budget (length (requests_of number w.events)))
         (not (is_done script w.events number) && not (was_cut script w.settings w.events number))
         (not_reached w.settings.budget (length (requests_of number w.events)) (subst (λ k. k < w.settings.budget) made_so h))
 
@@ -278,7 +255,7 @@ module _ (script : Script) (w : WorldValue) (s : Stands script w) (number : ℕ)
 
       pub then_due : due_by after.vanish after.counted ≡ true → (new : WorldValue) → Ends script number ending_of.Vanished mid new
           → Stands script new × TurnsTo script number w (turned.Ended ending_of.Vanished) new
-      then_due d new h = ends_behind ending_of.Vanished new h (due_then d) (inl (mid_owes (left_true _ _ (due_then d))))
+      then_due d new h = ends_behind ending_of.Vanished new h (due_then d) (inl (mid_owes (or_left _ _ (due_then d))))
 
       pub then_wanting : wants ≡ true → due_by after.vanish after.counted ≡ false → (new : WorldValue) → Ends script number ending_of.OutOfMemory mid new
           → Stands script new × TurnsTo script number w (turned.Ended ending_of.OutOfMemory) new

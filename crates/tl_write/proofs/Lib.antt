@@ -1,8 +1,9 @@
-pub mod Counts
+pub mod Keys
+mod Counts
 pub mod Fresh
-pub mod Judged
+mod Judged
 pub mod Parts
-pub mod Placed
-pub mod PlacesOn
+mod Placed
+mod PlacesOn
 pub mod Rising
-pub mod Statements
+mod Statements

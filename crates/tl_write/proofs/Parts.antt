@@ -10,6 +10,9 @@ use Rattle.std.specs.FinMap.{nat_cmp-IsAntisymmetric, slice_cmp-IsAntisymmetric}
 use Rattle.std.specs.FinMap.Entries.{below_all, find, is_sorted, same_entries}
 use Rattle.std.specs.List.{AllByRecursion}
 use Rattle.std.specs.Ordering.{is_eq}
+use Rattle.std.proofs.lemmas.Bool.{and_from}
+use Rattle.tl_lemmas.proofs.Tests.{and_first, and_second, held, holds}
+use Rattle.tl_lemmas.proofs.Orders.{less_is}
 use Rattle.tl_values.specs.declared.value.Value.{Value}
 use Rattle.tl_schema.specs.declared.catalog.Table.{Table}
 use Rattle.tl_schema.specs.Record.{record_key}
@@ -25,9 +28,9 @@ use Rattle.tl_write.specs.Change.{Deed, Add, Replace, Remove, Overflow, after, f
 use Rattle.tl_write.specs.Law.{Has, IsListed, IsPart, LooksAt, Matches, PartSuffices, RowsSuffice}
 use Rattle.tl_write.specs.Own.{is_written, key_cmp}
 use Rattle.tl_write.specs.Tables.{Tables, is_in, laid_over, tables_of, write_of}
-use Rattle.tl_write.proofs.Rising.{both, first, less, second}
+use Rattle.tl_write.proofs.Keys.{below_filter, key_eq, none_below, sorted_entries, sorted_filter}
 
--- both tell the same of the key of a deed
+-- and_from tell the same of the key of a deed
 abbrev Agree : (List ℕ → Bool) → (List ℕ → Bool) → Deed → Type 0
 Agree there here (Add key row) = there key ≡ here key
 Agree there here (Replace key row) = Unit {0}
@@ -79,43 +82,15 @@ abbrev keep : (Entry → Bool) → List ℕ → Option (List Value) → Option (
 keep p k None = None
 keep p k (Some v) = cond (p (k, v)) (Some v) None
 
-tie : (k l : List ℕ) → is_eq (key_cmp k l) ≡ true → k ≡ l
-tie k l h = slice_cmp-IsAntisymmetric nat_cmp-IsAntisymmetric k l (equal (key_cmp k l) h)
-  where
-    equal : (o : Ordering) → is_eq o ≡ true → o ≡ Equal
-    equal Less h = absurd cc
-    equal Equal h = refl
-    equal Greater h = absurd cc
-
-find_below : (k : List ℕ) (es : List Entry) → below_all key_cmp k es ≡ true → find key_cmp k es ≡ None
-find_below k [] h = refl
-find_below k (e ∷ es) h = ap (λ (o : Ordering). cond (is_eq o) (Some e.1) (find key_cmp k es)) (less _ (first _ _ h)) ∙ find_below k es (second _ _ h)
-
-below_filter : (p : Entry → Bool) (k : List ℕ) (es : List Entry) → below_all key_cmp k es ≡ true → below_all key_cmp k (filter p es) ≡ true
-below_filter p k [] h = refl
-below_filter p k (e ∷ es) h =
-    elim (p e) as (λ b. below_all key_cmp k (cond b (e ∷ filter p es) (filter p es)) ≡ true) [
-      | true ↦ both _ _ (first _ _ h) (below_filter p k es (second _ _ h))
-      | false ↦ below_filter p k es (second _ _ h)
-    ]
-
-sorted_filter : (p : Entry → Bool) (es : List Entry) → is_sorted key_cmp es ≡ true → is_sorted key_cmp (filter p es) ≡ true
-sorted_filter p [] h = refl
-sorted_filter p (e ∷ es) h =
-    elim (p e) as (λ b. is_sorted key_cmp (cond b (e ∷ filter p es) (filter p es)) ≡ true) [
-      | true ↦ both _ _ (below_filter p e.0 es (first _ _ h)) (sorted_filter p es (second _ _ h))
-      | false ↦ sorted_filter p es (second _ _ h)
-    ]
-
 find_filter : (p : Entry → Bool) (k : List ℕ) (es : List Entry) → is_sorted key_cmp es ≡ true → find key_cmp k (filter p es) ≡ keep p k (find key_cmp k es)
 find_filter p k [] h = refl
 find_filter p k (e ∷ es) h =
     elim (is_eq (key_cmp k e.0)) as (λ t. is_eq (key_cmp k e.0) ≡ t → find key_cmp k (cond (p e) (e ∷ filter p es) (filter p es)) ≡ keep p k (cond t (Some e.1) (find key_cmp k es))) [
       | true ↦ λ t.
-          let same : k ≡ e.0 = tie k e.0 t in
-          let none : find key_cmp k (filter p es) ≡ None = find_below k (filter p es) (ap (λ (l : List ℕ). below_all key_cmp l (filter p es)) same ∙ below_filter p e.0 es (first _ _ h)) in
+          let same : k ≡ e.0 = key_eq k e.0 t in
+          let none : find key_cmp k (filter p es) ≡ None = none_below k (filter p es) (ap (λ (l : List ℕ). below_all key_cmp l (filter p es)) same ∙ below_filter p e.0 es (and_first _ _ h)) in
           at_tie (p e) t none ∙ ap (λ (l : List ℕ). cond (p (l, e.1)) (Some e.1) None) (sym same)
-      | false ↦ λ t. apart (p e) t ∙ find_filter p k es (second _ _ h)
+      | false ↦ λ t. apart (p e) t ∙ find_filter p k es (and_second _ _ h)
     ] refl
   where
     at_tie : (b : Bool) → is_eq (key_cmp k e.0) ≡ true → find key_cmp k (filter p es) ≡ None → find key_cmp k (cond b (e ∷ filter p es) (filter p es)) ≡ cond b (Some e.1) None
@@ -125,16 +100,6 @@ find_filter p k (e ∷ es) h =
     apart : (b : Bool) → is_eq (key_cmp k e.0) ≡ false → find key_cmp k (cond b (e ∷ filter p es) (filter p es)) ≡ find key_cmp k (filter p es)
     apart true t = ap (λ (c : Bool). cond c (Some e.1) (find key_cmp k (filter p es))) t
     apart false t = refl
-
-true_if : (b : Bool) → T b → b ≡ true
-true_if true h = refl
-true_if false h = absurd h
-
-so : (b : Bool) → b ≡ true → T b
-so b e = subst T (sym e) tt
-
-sorted_entries : (m : Tables) → is_sorted key_cmp (finmap.entries m) ≡ true
-sorted_entries m = true_if _ (finmap.entries_sorted m)
 
 module _ (n : ℕ) (condition : Option Condition) where
   abbrev in_table : Entry → Bool
@@ -173,7 +138,7 @@ module _ (n : ℕ) (condition : Option Condition) where
       matching n condition part ≡ matching n condition whole
   matching_same part whole sub h =
       same_entries key_cmp nat_list_cmp_total (slice_cmp-IsAntisymmetric nat_cmp-IsAntisymmetric) (matching n condition part) (matching n condition whole)
-      (so _ (sorted_matching part)) (so _ (sorted_matching whole))
+      (holds _ (sorted_matching part)) (holds _ (sorted_matching whole))
       (λ k. find_matching part k ∙ kept_same k (finmap.get part k) (finmap.get whole k) (sub k) (λ x e p q. h k x (record { has = e; in_table = p; passes = q })) ∙ sym (find_matching whole k))
 
 pub part_suffices : PartSuffices
@@ -198,7 +163,7 @@ laid_part n t whole tables [] sub h = sub
 laid_part n t whole tables (row ∷ rows) sub h = laid_part n t whole (finmap.insert tables (record_key n t row) row) rows one h.1
   where
     found : (k : List ℕ) (b : Bool) → is_eq (key_cmp k (record_key n t row)) ≡ b → (r : List Value) → cond b (Some row) (finmap.get tables k) ≡ Some r → Has whole k r
-    found k true e r is = subst (λ (l : List ℕ). Has whole l r) (sym (tie k (record_key n t row) e)) (h.0 ∙ is)
+    found k true e r is = subst (λ (l : List ℕ). Has whole l r) (sym (key_eq k (record_key n t row) e)) (h.0 ∙ is)
     found k false e r is = sub k r is
 
     one : IsPart (finmap.insert tables (record_key n t row) row) whole

@@ -7,12 +7,13 @@ use Rattle.std.specs.List.{insert, position_or_len}
 use Rattle.std.specs.List.Sorted.{IsPartitionPoint}
 use Rattle.std.specs.Ordering.{is_eq, is_le, is_lt, match_ordering, ordering_reverse}
 use Rattle.std.proofs.lemmas.List.Sums.{prefix_len-le-length}
+use Rattle.tl_lemmas.proofs.Tests.{and_first, and_second}
 use Rattle.tl_write.specs.declared.write.Write.{Write}
 use Rattle.tl_write.specs.Own.{is_rising, is_written, key_cmp, put_write}
 use Rattle.tl_write.specs.Place.{holds}
-use Rattle.tl_write.proofs.Rising.{below_less, first, none_below, second, turned}
+use Rattle.tl_write.proofs.Rising.{below_less, none_below, turned}
 
--- the first place whose key isn't below this one
+-- the and_first place whose key isn't below this one
 abbrev pub place : List ℕ → List Write → ℕ
 place key = position_or_len (λ w. is_le (key_cmp key w.key))
 
@@ -92,10 +93,10 @@ written_place k [] h = refl
 written_place k (x ∷ xs) h =
     elim (key_cmp k x.key) as (λ o. key_cmp k x.key ≡ o → stands k (cond (not (is_le o)) (1 + place k xs) 0) (x ∷ xs) ≡ (is_eq (key_cmp x.key k) || is_written k xs)) [
       | Less ↦ λ p.
-          ap is_eq p ∙ sym (none_below k xs (below_less k x.key xs p (first _ _ h)))
+          ap is_eq p ∙ sym (none_below k xs (below_less k x.key xs p (and_first _ _ h)))
           ∙ ap (λ (o : Ordering). is_eq o || is_written k xs) (sym (turned k x.key Less p))
       | Equal ↦ λ p. ap is_eq p ∙ ap (λ (o : Ordering). is_eq o || is_written k xs) (sym (turned k x.key Equal p))
       | Greater ↦ λ p.
-          sym (stands_later k (place k xs) x xs) ∙ written_place k xs (second _ _ h)
+          sym (stands_later k (place k xs) x xs) ∙ written_place k xs (and_second _ _ h)
           ∙ ap (λ (o : Ordering). is_eq o || is_written k xs) (sym (turned k x.key Greater p))
     ] refl

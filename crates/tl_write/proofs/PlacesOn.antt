@@ -7,6 +7,8 @@ use Rattle.std.specs.Cmp.Lexicographic.{nat_list_cmp_total}
 use Rattle.std.specs.FinMap as finmap
 use Rattle.std.specs.FinMap.Entries.{by_order, put, is_sorted, below_all}
 use Rattle.std.proofs.lemmas.List.{drop_more}
+use Rattle.tl_lemmas.proofs.Tests.{held, holds}
+use Rattle.tl_lemmas.proofs.Lists.{no_length}
 use Rattle.tl_values.specs.declared.value.Value.{Value}
 use Rattle.tl_schema.specs.declared.catalog.Table.{Table}
 use Rattle.tl_schema.specs.Record.{record_key}
@@ -17,19 +19,8 @@ use Rattle.tl_write.specs.Own.{key_cmp}
 use Rattle.tl_write.specs.Places.{AreWithin, Places, record_at, row_at, tables_at}
 use Rattle.tl_write.specs.Tables.{Tables, is_in, laid_over, tables_of, write_of}
 
-no_length : {A : Type 0} (es : List A) → length es ≡ 0 → es ≡ []
-no_length [] e = refl
-no_length (x ∷ es) e = absurd (omega arith)
-
 entries_empty : (X : Type 0) → finmap.entries (finmap.empty {X = X} {R = key_cmp}) ≡ []
 entries_empty X = no_length _ (sym (finmap.len-entries (finmap.empty {X = X} {R = key_cmp})) ∙ finmap.len-empty key_cmp X)
-
-so : (b : Bool) → b ≡ true → T b
-so b e = subst T (sym e) tt
-
-true_if : (b : Bool) → T b → b ≡ true
-true_if true h = refl
-true_if false h = absurd h
 
 module _ (rows : List (List Value)) where
   below_same : (k : List ℕ) (es : List (List ℕ × ℕ)) → below_all key_cmp k (map (record_at rows) es) ≡ below_all key_cmp k es
@@ -60,7 +51,7 @@ module _ (rows : List (List Value)) where
       ]
 
   pub entries_at : (places : Places) → finmap.entries (tables_at rows places) ≡ map (record_at rows) (finmap.entries places)
-  entries_at places = finmap.entries-from_sorted key_cmp _ (so _ (sorted_same (finmap.entries places) ∙ true_if _ (finmap.entries_sorted places)))
+  entries_at places = finmap.entries-from_sorted key_cmp _ (holds _ (sorted_same (finmap.entries places) ∙ held _ (finmap.entries_sorted places)))
 
   pub nothing_at : (places : Places) → places ≡ finmap.empty → tables_at rows places ≡ finmap.empty
   nothing_at places e =

@@ -1,12 +1,12 @@
 use Rattle.std.proofs.Common.{ℕ, List, [], ◌∷◌, ◌++◌, ap, ◌∙◌}
+use Rattle.std.proofs.lemmas.Bool.{both_ways}
 use Rattle.tl_isolation.specs.declared.state.Transaction.{Transaction}
 use Rattle.tl_si.specs.Shown.{shown}
 use Rattle.tl_si.proofs.Endings.{began_is}
-use Rattle.tl_si.proofs.Logic.{never}
 use Rattle.tl_si.proofs.begin.begin.Goals as goal
 
 pub returns-then-not-may_begin : goal.returns-then-not-may_begin
-returns-then-not-may_begin c catalog a = never c.may_begin.result c.if-not-may_begin.true ((c.may_begin.ensures catalog).1 a)
+returns-then-not-may_begin c catalog a = both_ways c.may_begin.result c.if-not-may_begin.true ((c.may_begin.ensures catalog).1 a)
 
 pub returns : goal.returns
 returns c catalog = (

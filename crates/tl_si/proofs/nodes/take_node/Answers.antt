@@ -1,8 +1,9 @@
 use Rattle.std.proofs.Common.{ℕ, ◌==◌, not, Bool, List, Option, filter, ap, sym, ◌∙◌}
 use Rattle.std.specs.Prelude.{position, unwrap_or}
+use Rattle.tl_lemmas.proofs.Lists.{passes}
 use Rattle.tl_isolation.specs.declared.state.NodeState.{NodeState}
 use Rattle.tl_isolation.specs.State.{idle}
-use Rattle.tl_si.proofs.Find.{found_at, none_at, others_kept, passes}
+use Rattle.tl_si.proofs.Find.{found_at, none_at, others_kept}
 use Rattle.tl_si.proofs.nodes.take_node.Goals as goal
 
 abbrev is_of : ℕ → NodeState → Bool

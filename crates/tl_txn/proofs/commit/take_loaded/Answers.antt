@@ -1,12 +1,12 @@
 use Rattle.std.proofs.Common.{◌≡◌, ℕ, false, None, sym, ◌∙◌, subst}
 use Rattle.std.specs.Prelude.{slice_get}
+use Rattle.tl_lemmas.proofs.Lists.{some_at}
 use Rattle.tl_ask.specs.Hears.{record_or_strange}
 use Rattle.tl_descriptor.specs.Tids.{TidSet}
 use Rattle.tl_protocol.specs.Store.{Cell}
 use Rattle.tl_versions.specs.Versions.{is_written, stranger}
 use Rattle.tl_txn.proofs.Cases.{is_free}
 use Rattle.tl_txn.proofs.Hearing.{taken_so}
-use Rattle.tl_txn.proofs.Own.{some_at}
 use Rattle.tl_txn.specs.Taken.{finds, takes_storing}
 use Rattle.tl_txn.proofs.commit.take_loaded.Goals as goal
 

@@ -1,8 +1,8 @@
 use Rattle.std.proofs.Common.{◌≡◌, ℕ, true, All, List, sym, subst, arith}
 use Rattle.tl_logrec.specs.Entry.{are_rising}
 use Rattle.tl_logrec.specs.Keys.{IsKey}
-use Rattle.tl_txn.proofs.Own.{keys_rise}
 use Rattle.tl_txn.proofs.prepare.store_keys.Goals as goal
+use Rattle.tl_journal.proofs.Sizes.{keys_rise}
 
 pub returns-clause-fit : goal.returns-clause-fit
 returns-clause-fit c =

@@ -10,6 +10,5 @@ returns-clause-is_one c = subst (StandsIn c.args.self.now) (sym c.lowest.ensures
 
 pub returns-clause-begins_all : goal.returns-clause-begins_all
 returns-clause-begins_all c canonical chain =
-    let e = c.begins_is_an_order.ensures in
     subst (λ least. AllByRecursion (λ mark. begins least mark ≡ true) c.args.self.now) (sym c.lowest.ensures.exact)
-    (begins_each (record { itself = e.reflexive; onward = e.transitive }) c.args.self.now canonical chain)
+    (begins_each c.args.self.now canonical chain)

@@ -2,11 +2,12 @@ use Rattle.std.proofs.Common.{◌≡◌, ℕ, true, List, ◌∷◌, refl, sym, 
 use Rattle.tl_base.specs.NodeSet.{has_node, with_node}
 use Rattle.tl_base.specs.declared.node.NodeSet.{NodeSet}
 use Rattle.tl_journal.specs.Node.{nodes_in}
-use Rattle.tl_recover.proofs.Least.{begun, is_there}
+use Rattle.tl_recover.proofs.Least.{begun}
 use Rattle.tl_recover.proofs.recover.Recover.begin.Goals as goal
+use Rattle.tl_protocol.proofs.Held.{vanished_here}
 
 pub least_of-first-requires : goal.least_of-first-requires
-least_of-first-requires c = subst (λ (set : NodeSet). has_node set c.args.node ≡ true) (sym c.insert.ensures) (is_there c.args.also c.args.node)
+least_of-first-requires c = subst (λ (set : NodeSet). has_node set c.args.node ≡ true) (sym c.insert.ensures) (vanished_here c.args.also c.args.node)
 
 pub returns : goal.returns
 returns c =

@@ -1,5 +1,5 @@
 use Rattle.std.proofs.Common.{◌≡◌, ◌+◌, ◌<◌, length, slice_index_or, ap, ◌∙◌, arith}
-use Rattle.tl_journal.proofs.StoreEvents.{length_next}
+use Rattle.std.proofs.lemmas.List.{length_push}
 use Rattle.tl_world.specs.Stands.{SlotValue}
 use Rattle.tl_world.specs.declared.request.Served.{Served}
 use Rattle.tl_world.specs.Turns.{due_by}
@@ -55,7 +55,7 @@ returns c =
     let hears = c.hear-wants.ensures.hears v (ap (λ (x : SlotValue). x.node) c.index_mut.ensures.value ∙ c.requires.there.node_is slot) in
     let call : Served = c.in_ok-place.field-0 in
     let more : length c.push_reserved.new.self.items ≡ length c.args.self.now.events.items + 1 =
-    ap length c.push_reserved.ensures.items ∙ length_next c.args.self.now.events.items (served_event c.args.number call c.take_all-entries.result) in
+    ap length c.push_reserved.ensures.items ∙ length_push c.args.self.now.events.items (served_event c.args.number call c.take_all-entries.result) in
     record {
       went = λ logs script s.
           request_made logs script (seen_as c.args.self.now) s (omega (arith, c.requires.room.few_events)) c.args.number c.args.at c.requires.there.spot_is c.index.result.now c.index.ensures call

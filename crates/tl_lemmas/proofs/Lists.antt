@@ -1,11 +1,11 @@
--- What is found in a list of which elements were changed, removed or added.
-use Rattle.std.proofs.Common.{◌≡◌, Bool, true, false, ◌||◌, cond, List, [], ◌∷◌, ◌++◌, Option, Some, None, option_map, map, filter, find, refl, sym, ap, subst, ◌∙◌}
+-- Facts of each element of a list, and what is found in a list of which elements were changed, removed or added.
+use Rattle.std.proofs.Common.{◌≡◌, ℕ, zero, suc, ◌+◌, ◌<◌, Bool, true, false, ◌||◌, cond, List, [], ◌∷◌, ◌++◌, length, get_or, drop, reverse, slice_get, Option, Some, None, option_map, map, filter, find, refl, sym, ap, subst, ◌∙◌, arith}
 use Rattle.std.specs.Option.{option_or}
+use Rattle.std.specs.Prelude.{slice_set}
 use Rattle.std.specs.List.{list_any, AllByRecursion}
 use Rattle.std.proofs.lemmas.Bool.{both_ways, or_left, or_right}
-
-pub some_same : {X : Type 0} (x y : X) → Some x ≡ Some y → x ≡ y
-some_same x y e = cc
+use Rattle.std.proofs.lemmas.List.{drop_more, reverse-append}
+use Rattle.std.proofs.lemmas.Option.{same_Some}
 
 pub or_none : {X : Type 0} (o : Option X) → option_or o None ≡ o
 or_none None = refl
@@ -41,7 +41,7 @@ pub found : {X : Type 0} (P : X → Type 0) (p : X → Bool) (xs : List X) (x : 
 found P p [] x h e = absurd cc
 found P p (y ∷ ys) x h e =
     elim (p y) as (λ b. cond b (Some y) (find p ys) ≡ Some x → P x) [
-      | true ↦ λ i. subst P (some_same y x i) h.0
+      | true ↦ λ i. subst P (same_Some y x i) h.0
       | false ↦ λ i. found P p ys x h.1 i
     ] e
 
@@ -50,7 +50,7 @@ pub passes : {X : Type 0} (p : X → Bool) (xs : List X) (x : X) → find p xs �
 passes p [] x e = absurd cc
 passes p (y ∷ ys) x e =
     elim (p y) as (λ b. p y ≡ b → cond b (Some y) (find p ys) ≡ Some x → p x ≡ true) [
-      | true ↦ λ t i. ap p (sym (some_same y x i)) ∙ t
+      | true ↦ λ t i. ap p (sym (same_Some y x i)) ∙ t
       | false ↦ λ t i. passes p ys x i
     ] refl e
 
@@ -66,7 +66,7 @@ pub any_found : {X : Type 0} (p q : X → Bool) (xs : List X) (x : X) → find p
 any_found p q [] x e h = absurd cc
 any_found p q (y ∷ ys) x e h =
     elim (p y) as (λ b. cond b (Some y) (find p ys) ≡ Some x → (q y || list_any q ys) ≡ true) [
-      | true ↦ λ i. or_left (q y) (list_any q ys) (ap q (some_same y x i) ∙ h)
+      | true ↦ λ i. or_left (q y) (list_any q ys) (ap q (same_Some y x i) ∙ h)
       | false ↦ λ i. or_right (q y) (list_any q ys) (any_found p q ys x i h)
     ] e
 
@@ -109,3 +109,41 @@ filter_none p q (x ∷ xs) h =
       ] refl
       | false ↦ λ i. filter_none p q xs h.1
     ] refl
+
+pub all_append : {X : Type 0} (P : X → Type 0) (xs ys : List X) → AllByRecursion P xs → AllByRecursion P ys → AllByRecursion P (xs ++ ys)
+all_append P [] ys h i = i
+all_append P (x ∷ xs) ys h i = (h.0, all_append P xs ys h.1 i)
+
+pub all_both : {X : Type 0} (P Q : X → Type 0) (xs : List X) → AllByRecursion P xs → AllByRecursion Q xs → AllByRecursion (λ x. P x × Q x) xs
+all_both P Q [] h i = tt
+all_both P Q (x ∷ xs) h i = ((h.0, i.0), all_both P Q xs h.1 i.1)
+
+pub all_mapped : {X Y : Type 0} (P : Y → Type 0) (f : X → Y) → ((x : X) → P (f x)) → (xs : List X) → AllByRecursion P (map f xs)
+all_mapped P f g [] = tt
+all_mapped P f g (x ∷ xs) = (g x, all_mapped P f g xs)
+
+pub all_set : {X : Type 0} (P : X → Type 0) (xs : List X) (place : ℕ) (y : X) → AllByRecursion P xs → P y → AllByRecursion P (slice_set xs place y)
+all_set P [] place y h p = tt
+all_set P (x ∷ xs) zero y h p = (p, h.1)
+all_set P (x ∷ xs) (suc place) y h p = (h.0, all_set P xs place y h.1 p)
+
+-- ---- places of a list
+
+pub no_length : {X : Type 0} (xs : List X) → length xs ≡ 0 → xs ≡ []
+no_length [] e = refl
+no_length (x ∷ xs) e = absurd (omega arith)
+
+pub some_at : {X : Type 0} (xs : List X) (i : ℕ) → i < length xs → (x : X) × (slice_get xs i ≡ Some x)
+some_at [] i l = absurd (omega arith)
+some_at (x ∷ xs) zero l = (x, refl)
+some_at (x ∷ xs) (suc i) l = some_at xs i (omega arith)
+
+pub behind_first : {X : Type 0} (xs : List X) (x : X) (ys : List X) → slice_get (xs ++ x ∷ ys) (length xs) ≡ Some x
+behind_first [] x ys = refl
+behind_first (z ∷ xs) x ys = behind_first xs x ys
+
+pub drop_read : {X : Type 0} (xs : List X) (i : ℕ) (x : X) → i < length xs → x ≡ get_or xs i x → drop i xs ≡ x ∷ drop (i + 1) xs
+drop_read xs i x h e = drop_more xs i x h ∙ ap (λ y. y ∷ drop (i + 1) xs) (sym e)
+
+pub reverse_cons : {X : Type 0} (x : X) (xs : List X) → reverse (x ∷ xs) ≡ reverse xs ++ x ∷ []
+reverse_cons x xs = reverse-append (x ∷ []) xs
