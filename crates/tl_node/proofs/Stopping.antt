@@ -212,6 +212,8 @@ pub has_stopped : (core new : Core) (w : Work) (owed : NodeSet) (told : Reply) �
     → HasStopped core.layout core.catalog (node_at core w) (hears core.layout core.catalog (node_at core w) told) (value_of new (work.Stopped owed))
 has_stopped core new w owed told fits stays held e = record {
   number = stays.number;
+  answers = held.answers;
+  todo = todo_is;
   doing = ap (λ todo. doing_so todo (work.Stopped owed)) todo_is ∙ left (drop (length core.answers.items) core.statements) held.left
       ∙ ap Stopped (e ∙ sym (stops_owing core w told fits held.left));
   ask = refl;
@@ -240,10 +242,10 @@ stopped_fits core new w owed stays held =
 
 -- ---- what is told of the reply
 
-pub told_strange : (core new : Core) (w : Work) (owed : NodeSet) (told : Reply) (m n : Mark) → IsFit core w → Stays core new → owed ≡ owed_next w told
+pub told_strange : (core new : Core) (w : Work) (owed : NodeSet) (told : Reply) (m : Mark) → IsFit core w → Stays core new → owed ≡ owed_next w told
     → IsAfter core.layout core.catalog (node_at core w) told new m (Ok next.Strange)
-    → IsToldSo (value_of core w) told (value_of new (work.Stopped owed)) n rest.Strange
-told_strange core new w owed told m n fits stays e after = (has_stopped core new w owed told fits stays after.0 e, after.1)
+    → IsToldSo (value_of core w) told (value_of new (work.Stopped owed)) mark.Quiet rest.Strange
+told_strange core new w owed told m fits stays e after = (has_stopped core new w owed told fits stays after.0 e, after.1, refl)
 
 pub told_wants : (core new : Core) (w : Work) (owed : NodeSet) (told : Reply) (m : Mark) (fault : NoMemory) → IsFit core w → Stays core new → owed ≡ owed_next w told
     → IsAfter core.layout core.catalog (node_at core w) told new m (Err fault)
@@ -294,9 +296,9 @@ module _ (core new : Core) (w : Work) (told : Reply) (m : Mark) (result : Result
   says_fits v said e =
       let a : Says core.layout core.catalog (node_at core w) (hears core.layout core.catalog (node_at core w) told) told m new v said = after_so (Ok (next.Says v said)) e in a.fits
 
-  pub strange_told : (owed : NodeSet) (n : Mark) → IsFit core w → Stays core new → owed ≡ owed_next w told → result ≡ Ok next.Strange
-      → IsToldSo (value_of core w) told (value_of new (work.Stopped owed)) n rest.Strange
-  strange_told owed n fits stays e f = told_strange core new w owed told m n fits stays e (after_so (Ok next.Strange) f)
+  pub strange_told : (owed : NodeSet) → IsFit core w → Stays core new → owed ≡ owed_next w told → result ≡ Ok next.Strange
+      → IsToldSo (value_of core w) told (value_of new (work.Stopped owed)) mark.Quiet rest.Strange
+  strange_told owed fits stays e f = told_strange core new w owed told m fits stays e (after_so (Ok next.Strange) f)
 
   pub strange_fits : (owed : NodeSet) → Stays core new → result ≡ Ok next.Strange → IsFit new (work.Stopped owed)
   strange_fits owed stays f = stopped_fits core new w owed stays (after_so (Ok next.Strange) f).0
@@ -347,19 +349,22 @@ owes_at (work.Runs r) = refl
 owes_at (work.Recovers gone recover) = refl
 owes_at (work.Stopped nodes) = refl
 
-pub refused_told : (core : Core) (w : Work) (told : Reply) (m : Mark) → IsFit core w → may_be_given (work_asks w) told ≡ false
-    → IsTold (value_of core w) told (value_of core (work.Stopped (owed_at w))) m rest.Strange
-refused_told core w told m fits refused =
-    subst (λ (b : Bool). IsToldAt (value_of core w) (if b then hears core.layout core.catalog (node_at core w) told else Strange) told (value_of core (work.Stopped (owed_at w))) m rest.Strange)
+pub refused_told : (core : Core) (w : Work) (told : Reply) → IsFit core w → may_be_given (work_asks w) told ≡ false
+    → IsTold (value_of core w) told (value_of core (work.Stopped (owed_at w))) mark.Quiet rest.Strange
+refused_told core w told fits refused =
+    subst (λ (b : Bool). IsToldAt (value_of core w) (if b then hears core.layout core.catalog (node_at core w) told else Strange) told (value_of core (work.Stopped (owed_at w))) mark.Quiet rest.Strange)
     (sym refused) (
       record {
         number = refl;
+        answers = refl;
+        todo = refl;
         doing = left (drop (length core.answers.items) core.statements) some ∙ ap Stopped (sym (heard_owing core w Strange fits some ∙ owes_at w));
         ask = refl;
         settings_stay = refl;
         catalog_stays = refl;
       },
       strange_at core w some,
+      refl,
     )
   where
     some : is_empty (node_at core w).todo ≡ false

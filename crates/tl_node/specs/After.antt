@@ -166,9 +166,11 @@ owed_left settings catalog n sound =
     if has_said (says_at settings catalog [] n sound answer.Begun) then owed_by n.doing
     else owed_by (takes settings catalog n sound answer.Begun).doing
 
--- a node that asks nothing more
+-- a node that asks nothing more; what it has answered, and what is left of its session, stay
 pub record HasStopped (settings : Settings) (catalog : Catalog) (n : Node) (sound : Heard) (v : NodeValue) : Type 0 where
   pub number : v.node.number ≡ n.number
+  pub answers : v.node.answers ≡ n.answers
+  pub todo : v.node.todo ≡ n.todo
   pub doing : v.node.doing ≡ Stopped (owed_left settings catalog n sound)
   pub ask : v.ask ≡ None
   pub settings_stay : v.settings ≡ settings
@@ -184,7 +186,7 @@ IsToldAt v sound told after m (rest.Said said) =
     (is_strange_to v.settings v.catalog v.node sound ≡ false)
     × (OwnSuitsNode v.catalog v.node → SaysSo v.settings v.catalog v.node sound told m said after)
 IsToldAt v sound told after m rest.Strange =
-    HasStopped v.settings v.catalog v.node sound after × (is_strange_to v.settings v.catalog v.node sound ≡ true)
+    HasStopped v.settings v.catalog v.node sound after × (is_strange_to v.settings v.catalog v.node sound ≡ true) × (m ≡ mark.Quiet)
 IsToldAt v sound told after m rest.NoMemory = HasStopped v.settings v.catalog v.node sound after × Wants v.settings v.catalog v.node sound told m
 
 -- where the reply's stamp may be

@@ -16,7 +16,7 @@ returns-then-may_be_given-clause-told c =
 pub returns-else-may_be_given-clause-told : goal.returns-else-may_be_given-clause-told
 returns-else-may_be_given-clause-told c =
     subst (λ (w : Work). IsTold (value_of c.args.core.now c.args.work) c.args.reply.now (value_of c.args.core.now w) mark.Quiet rest.Strange) (sym c.stopped.ensures)
-    (refused_told c.args.core.now c.args.work c.args.reply.now mark.Quiet c.requires (sym c.may_be_given.ensures ∙ c.if-may_be_given.false))
+    (refused_told c.args.core.now c.args.work c.args.reply.now c.requires (sym c.may_be_given.ensures ∙ c.if-may_be_given.false))
 
 pub returns-else-may_be_given-clause-fits : goal.returns-else-may_be_given-clause-fits
 returns-else-may_be_given-clause-fits c =

@@ -1,5 +1,4 @@
 use Rattle.std.proofs.Common.{Ok, ap, ◌∙◌}
-use Rattle.tl_manager.specs.declared.mark.Mark.TheVariants as mark
 use Rattle.tl_node.proofs.Stopping.{goes_fits, goes_told, says_fits, says_told, strange_fits, strange_told, wants_fits, wants_told}
 use Rattle.tl_node.proofs.node.take_reply.Goals as goal
 
@@ -26,7 +25,7 @@ returns-in-Ok-Says-clause-fits c =
 pub returns-in-Ok-Strange-clause-told : goal.returns-in-Ok-Strange-clause-told
 returns-in-Ok-Strange-clause-told c =
     strange_told c.args.core.now c.take_work-mark.new.core c.args.work c.args.reply.now c.take_work-mark.result.0 c.take_work-mark.result.1 c.take_work-mark.ensures.after
-    c.owed_after-owed.result mark.Quiet c.requires c.take_work-mark.ensures.stays c.owed_after-owed.ensures (c.in-Ok-Strange.is ∙ ap Ok c.in-Ok-Strange.field-0-is)
+    c.owed_after-owed.result c.requires c.take_work-mark.ensures.stays c.owed_after-owed.ensures (c.in-Ok-Strange.is ∙ ap Ok c.in-Ok-Strange.field-0-is)
 
 pub returns-in-Ok-Strange-clause-fits : goal.returns-in-Ok-Strange-clause-fits
 returns-in-Ok-Strange-clause-fits c =
