@@ -1,8 +1,6 @@
 -- Where the tokens of a text stand.
-use Rattle.std.proofs.Common.{◌≡◌, ℕ, zero, suc, ◌+◌, ◌-◌, ◌<◌, ◌≤◌, ◌==◌, Bool, true, false, cond, List, [], ◌∷◌, length, drop, get_or, Option, Some, None, Result, Ok, Err, refl, sym, ap, subst, ◌∙◌, arith}
+use Rattle.std.proofs.Common.{◌≡◌, ℕ, zero, suc, ◌+◌, ◌-◌, ◌<◌, ◌≤◌, ◌==◌, Bool, true, false, cond, List, ◌∷◌, length, drop, get_or, Option, Some, None, Result, Ok, Err, refl, subst, arith}
 use Rattle.std.specs.Prelude.{IsUtf8, IsCharBoundary, IfOk, IfErr, All}
-use Rattle.std.specs.List.{prefix_len}
-use Rattle.std.specs.Str.{is_utf8}
 use Rattle.std.proofs.lemmas.Bool.Decides.{nat_tests}
 use Rattle.std.proofs.lemmas.List.{get_or-drop, length-drop}
 use Rattle.std.proofs.lemmas.List.Elements.{All-nil, All-cons}
@@ -21,7 +19,7 @@ use Rattle.tl_lex.specs.Before.{after}
 use Rattle.tl_lex.specs.Front.{is_blank, token_at}
 use Rattle.tl_lex.specs.Lexed.{Gives, ◌>>=◌, and_behind, bytes_of, lexed, next_token, past_blanks, placed, tokens_from}
 use Rattle.tl_lex.specs.Spans.{InOrder, IsCut, IsWithin, begins}
-use Rattle.tl_lex.proofs.Fronts.{Fronts, IsFront, token_front}
+use Rattle.tl_lex.proofs.Fronts.{Fronts, token_front}
 
 -- a token behind this place
 pub record IsFound (text : List ℕ) (at : ℕ) (token : Token) : Type 0 where

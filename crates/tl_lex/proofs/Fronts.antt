@@ -1,16 +1,16 @@
 -- The token at the front of bytes is some of them, and its first and last bytes are ASCII.
-use Rattle.std.proofs.Common.{◌≡◌, ℕ, zero, suc, ◌+◌, ◌-◌, ◌<◌, ◌≤◌, ◌&&◌, ◌||◌, not, Bool, true, false, cond, List, [], ◌∷◌, length, drop, get_or, Option, Some, None, Result, Ok, Err, codes, nat_eq, refl, sym, ap, subst, ◌∙◌, arith, add-one}
+use Rattle.std.proofs.Common.{◌≡◌, ℕ, ◌+◌, ◌-◌, ◌<◌, ◌≤◌, ◌&&◌, not, Bool, true, false, cond, List, [], ◌∷◌, length, get_or, Option, Some, None, Result, Ok, Err, refl, subst, arith, add-one}
 use Rattle.std.proofs.lemmas.Bool.Decides.{nat_tests}
 use Rattle.std.proofs.lemmas.List.Sums.{prefix_len-le-length, prefix_len_passes}
 use Rattle.std.specs.Char.{is_ascii_digit}
-use Rattle.std.specs.List.{list_any, prefix_len}
+use Rattle.std.specs.List.{prefix_len}
 use Rattle.std.specs.Option.{option_map}
 use Rattle.tl_lex.specs.declared.before.Before.{Before}
 use Rattle.tl_lex.specs.declared.fault.LexKind.{LexKind}
-use Rattle.tl_lex.specs.declared.fault.LexKind.TheVariants.{BadCharacter, LongName, Unclosed, Wide}
+use Rattle.tl_lex.specs.declared.fault.LexKind.TheVariants.{BadCharacter, LongName, Wide}
 use Rattle.tl_lex.specs.declared.token.TokenKind.{TokenKind}
 use Rattle.tl_lex.specs.declared.token.TokenKind.TheVariants as kind
-use Rattle.tl_lex.specs.Front.{greatest, in_name, is_letter, is_long_sign, is_quote, is_short_sign, name_at, number_at, rest_of_text, closed_text, short_sign_at, sign_at, text_at, token_at}
+use Rattle.tl_lex.specs.Front.{in_name, is_letter, is_long_sign, is_quote, is_short_sign, name_at, number_at, rest_of_text, closed_text, short_sign_at, sign_at, text_at, token_at}
 use Rattle.tl_lex.specs.Spans.{begins}
 
 pub record IsFront (bytes : List ℕ) (sort : TokenKind) (len : ℕ) : Type 0 where

@@ -1,5 +1,5 @@
 -- The tokens so far, and those from there on.
-use Rattle.std.proofs.Common.{◌≡◌, ℕ, zero, suc, ◌+◌, ◌<◌, ◌≤◌, List, [], ◌∷◌, ◌++◌, length, Option, Some, None, Result, Ok, Err, refl, sym, ap, subst, ◌∙◌, append_assoc, append-nil, arith}
+use Rattle.std.proofs.Common.{◌≡◌, ℕ, zero, suc, ◌+◌, ◌<◌, ◌≤◌, List, [], ◌∷◌, ◌++◌, length, Option, Some, None, Result, Ok, Err, refl, sym, ap, ◌∙◌, append_assoc, append-nil, arith}
 use Rattle.tl_lex.specs.declared.before.Before.{Before}
 use Rattle.tl_lex.specs.declared.before.Before.TheVariants.{Free}
 use Rattle.tl_lex.specs.declared.fault.LexFault.{LexFault}

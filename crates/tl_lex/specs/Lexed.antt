@@ -1,5 +1,5 @@
 -- The tokens of a text, or its first fault.
-use Rattle.std.specs.Prelude.{◌≡◌, ℕ, zero, suc, ◌+◌, ◌-◌, ◌==◌, List, [], ◌∷◌, Option, Some, None, Result, Ok, Err, length, take, drop, if◌then◌else◌}
+use Rattle.std.specs.Prelude.{◌≡◌, ℕ, zero, suc, ◌+◌, ◌==◌, List, [], ◌∷◌, Option, Some, None, Result, Ok, Err, length, drop, if◌then◌else◌}
 use Rattle.std.specs.List.{prefix_len, slice_range}
 use Rattle.tl_lex.specs.declared.before.Before.{Before}
 use Rattle.tl_lex.specs.declared.before.Before.TheVariants.{Free}

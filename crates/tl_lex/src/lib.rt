@@ -5,6 +5,8 @@ mod before;
 mod fault;
 mod front;
 mod lexer;
+#[cfg(test)]
+mod tests;
 mod token;
 mod word;
 

@@ -1,5 +1,3 @@
-use Rattle.std.proofs.Common.{◌≡◌, subst}
-use Rattle.tl_lex.specs.Lexed.{Gives, lexed}
 use Rattle.tl_lex.proofs.Found.{cut_given, order_given, place_given}
 use Rattle.tl_lex.proofs.lexer.lex.Goals as goal
 

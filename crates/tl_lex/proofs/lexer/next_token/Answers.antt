@@ -1,6 +1,6 @@
-use Rattle.std.proofs.Common.{◌≡◌, ◌<◌, ◌≤◌, ◌-◌, ◌+◌, length, drop, sym, ap, ◌∙◌, arith}
+use Rattle.std.proofs.Common.{◌<◌, length, sym, ap, ◌∙◌, arith}
 use Rattle.std.proofs.lemmas.List.{length-drop}
-use Rattle.tl_lex.proofs.Fronts.{IsFront, found_front}
+use Rattle.tl_lex.proofs.Fronts.{found_front}
 use Rattle.tl_lex.proofs.lexer.next_token.Goals as goal
 
 pub overflow_cast-result : goal.overflow_cast-result

@@ -1,7 +1,5 @@
-use Rattle.std.proofs.Common.{◌≡◌, ◌<◌, ◌≤◌, ◌++◌, ◌∷◌, [], length, sym, ap, ◌∙◌, arith, Ok, Err, Some, None}
+use Rattle.std.proofs.Common.{◌<◌, sym, ap, ◌∙◌, arith, Ok}
 use Rattle.std.proofs.lemmas.Result.{err_from_is_err_and}
-use Rattle.tl_lex.specs.Before.{after}
-use Rattle.tl_lex.specs.Lexed.{bytes_of, next_token}
 use Rattle.tl_lex.proofs.Turns.{none_so_far, one_more, all_found, fault_found}
 use Rattle.tl_lex.proofs.lexer.tokens_of.Goals as goal
 
