@@ -1,5 +1,5 @@
 -- Where the tokens of a text stand.
-use Rattle.std.proofs.Common.{◌≡◌, ℕ, zero, suc, ◌+◌, ◌-◌, ◌<◌, ◌≤◌, ◌==◌, Bool, true, false, cond, List, ◌∷◌, length, drop, get_or, Option, Some, None, Result, Ok, Err, refl, subst, arith}
+use Rattle.std.proofs.Common.{◌≡◌, ℕ, zero, suc, ◌+◌, ◌-◌, ◌<◌, ◌≤◌, ◌==◌, Bool, true, false, cond, List, ◌∷◌, length, take, drop, get_or, Option, Some, None, Result, Ok, Err, refl, subst, arith, sym, slice_range}
 use Rattle.std.specs.Prelude.{IsUtf8, IsCharBoundary, IfOk, IfErr, All}
 use Rattle.std.proofs.lemmas.Bool.Decides.{nat_tests}
 use Rattle.std.proofs.lemmas.List.{get_or-drop, length-drop}
@@ -18,7 +18,7 @@ use Rattle.tl_lex.specs.declared.token.TokenKind.TheVariants as kind
 use Rattle.tl_lex.specs.Before.{after}
 use Rattle.tl_lex.specs.Front.{is_blank, token_at}
 use Rattle.tl_lex.specs.Lexed.{Gives, ◌>>=◌, and_behind, bytes_of, lexed, next_token, past_blanks, placed, tokens_from}
-use Rattle.tl_lex.specs.Spans.{InOrder, IsCut, IsWithin, begins}
+use Rattle.tl_lex.specs.Spans.{InOrder, IsCut, IsSpelled, IsWithin, begins}
 use Rattle.tl_lex.proofs.Fronts.{Fronts, token_front}
 
 -- a token behind this place
@@ -28,6 +28,7 @@ pub record IsFound (text : List ℕ) (at : ℕ) (token : Token) : Type 0 where
   pub within : token.end ≤ length text
   pub kind : begins token.kind (get_or text token.start 0) ≡ true
   pub last : get_or text (token.end - 1) 0 < 128
+  pub spelled : IsSpelled token.kind (slice_range text token.start token.end)
 
 abbrev FoundAt : List ℕ → ℕ → Result (Option Token) LexFault → Type 0
 FoundAt text at (Ok None) = Unit {0}
@@ -46,6 +47,7 @@ placed_found text at start (Ok found) behind within front =
       some = omega arith;
       within = omega (arith, length-drop start text);
       kind = subst (λ (i : ℕ). begins found.0 (get_or text i 0) ≡ true) here (subst (λ (b : ℕ). begins found.0 b ≡ true) (get_or-drop start text 0 0) front.kind);
+      spelled = let len : start + found.1 - start ≡ found.1 = omega arith in subst (λ (n : ℕ). IsSpelled found.0 (take n (drop start text))) (sym len) front.spelled;
       last = subst (λ (i : ℕ). get_or text i 0 < 128) there (subst (λ (b : ℕ). b < 128) (get_or-drop start text (found.1 - 1) 0) front.last);
     }
 placed_found text at start (Err kind) behind within front = within
@@ -80,6 +82,7 @@ found_cut text at token utf8 found =
       starts = IsCharBoundary-before_ascii text token.start (omega arith) (begins-lt token.kind _ found.kind);
       ends = subst (IsCharBoundary text) e (IsCharBoundary-after_ascii text (token.end - 1) utf8 (omega arith) found.last);
       kind = found.kind;
+      spelled = found.spelled;
     }
 
 -- so do all of them, and the first fault
