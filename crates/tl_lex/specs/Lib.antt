@@ -1,0 +1,5 @@
+pub mod Before
+pub mod Front
+pub mod Lexed
+pub mod Spans
+pub mod Word
