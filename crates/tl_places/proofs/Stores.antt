@@ -28,34 +28,30 @@ stores_from-push stamp (d ∷ stored) c =
     ++ record { request = request.StoreIf c.0 0 c.1; reply = reply.Stored (n + 1) } ∷ []) (let e : stamp + 1 + length stored ≡ stamp + length (d ∷ stored) = omega arith in e)
 
 -- each store counts
-stores_counted : (stamp : ℕ) (stored : List Stored) → length (stores (stores_from stamp stored)) ≡ length stored
+pub stores_counted : (stamp : ℕ) (stored : List Stored) → length (stores (stores_from stamp stored)) ≡ length stored
 stores_counted stamp [] = refl
 stores_counted stamp (c ∷ stored) =
     length_push (stores (stores_from (stamp + 1) stored)) (c.0, record { stamp = stamp + 1; value = c.1 })
     ∙ (let e : length (stores (stores_from (stamp + 1) stored)) ≡ length stored = stores_counted (stamp + 1) stored in omega arith)
 
--- a store that is answered by a stamp is answered by the next
-next_stamp : (found stamp last fresh : ℕ) → store_reply found stamp last ≡ reply.Stored fresh → store_reply found stamp last ≡ reply.Stored (last + 1)
-next_stamp found stamp last fresh =
-    elim (found == stamp) as (λ b. let answer = cond b (cond (last == greatest) (reply.Full last) (reply.Stored (last + 1))) (reply.Moved found) in
-    answer ≡ reply.Stored fresh → answer ≡ reply.Stored (last + 1)) [
-      | true ↦ elim (last == greatest) as (λ b. let answer = cond b (reply.Full last) (reply.Stored (last + 1)) in
-          answer ≡ reply.Stored fresh → answer ≡ reply.Stored (last + 1)) [ true ↦ λ e. absurd cc | false ↦ λ e. refl ]
-      | false ↦ λ e. absurd cc
-    ]
+-- a store at an absent cell, where stamps are left, is answered by the next one
+pub answered_next : (found last : ℕ) → found ≡ 0 → last < greatest → store_reply found 0 last ≡ reply.Stored (last + 1)
+answered_next found last absent stamps =
+    ap (λ (n : ℕ). store_reply n 0 last) absent
+    ∙ ap (λ (b : Bool). cond b (reply.Full last) (reply.Stored (last + 1))) (apart last greatest (λ (e : last ≡ greatest). omega arith))
 
--- a shard that stored these, and answers one store more by a stamp
-pub stored_next : (state : ShardState) (key value : List ℕ) (fresh : ℕ) → reply_of state (request.StoreIf key 0 value) ≡ reply.Stored fresh
+-- a shard that stored these, and is asked to store one that is absent
+pub stored_next : (state : ShardState) (key value : List ℕ) → (cell_under key state.cells).stamp ≡ 0 → state.last < greatest
     → (stored : List Stored) → ShardHasServed (stores_from 0 stored) state
     → ShardHasServed (stores_from 0 (stored ++ (key, value) ∷ [])) (next_of state (request.StoreIf key 0 value))
-stored_next state key value fresh e stored h =
+stored_next state key value absent stamps stored h =
     let log : List Call = stores_from 0 stored in
     let call : Call = record { request = request.StoreIf key 0 value; reply = reply_of state (request.StoreIf key 0 value) } in
     let last : state.last ≡ 0 + length (stores log) = h.matches.last in
     let stored_count : length (stores log) ≡ length stored = stores_counted 0 stored in
     let count : state.last ≡ 0 + length stored = omega arith in
     let answer : reply_of state (request.StoreIf key 0 value) ≡ reply.Stored (0 + length stored + 1) =
-    next_stamp (cell_under key state.cells).stamp 0 state.last fresh e ∙ ap (λ (n : ℕ). reply.Stored (n + 1)) count in
+    answered_next (cell_under key state.cells).stamp state.last absent stamps ∙ ap (λ (n : ℕ). reply.Stored (n + 1)) count in
     let whole : log ++ call ∷ [] ≡ stores_from 0 (stored ++ (key, value) ∷ []) =
     ap (λ (r : StoreReply). log ++ record { request = request.StoreIf key 0 value; reply = r } ∷ []) answer ∙ sym (stores_from-push 0 stored (key, value)) in
     subst (λ (l : List Call). ShardHasServed l (next_of state (request.StoreIf key 0 value))) whole

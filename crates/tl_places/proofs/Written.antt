@@ -1,5 +1,5 @@
 -- The opening rows by their keys are the opening writes.
-use Rattle.std.proofs.Common.{◌≡◌, ℕ, List, [], ◌∷◌, ◌++◌, Some, Less, Equal, Greater, map, length, refl, sym, ap, subst, ◌∙◌, append_assoc, arith}
+use Rattle.std.proofs.Common.{◌≡◌, ℕ, ◌+◌, ◌≤◌, false, cond, List, [], ◌∷◌, ◌++◌, true, Some, Less, Equal, Greater, map, length, refl, sym, ap, subst, ◌∙◌, append_assoc, arith}
 use Rattle.std.specs.Cmp.Lexicographic.{nat_list_cmp_total}
 use Rattle.std.specs.FinMap as finmap
 use Rattle.std.specs.FinMap.{nat_cmp-IsAntisymmetric, slice_cmp-IsAntisymmetric}
@@ -17,6 +17,7 @@ use Rattle.tl_isolation.specs.Tables.{opening_writes, table_of}
 use Rattle.tl_versions.specs.Cell as cells
 use Rattle.tl_versions.specs.Cell.{IsShortRow}
 use Rattle.tl_journal.specs.Binding.{WriteFits}
+use Rattle.tl_journal.specs.Served.{is_record_key}
 use Rattle.tl_places.specs.Opening.{Stored, row_cell, row_writes, with_row, with_rows}
 
 abbrev Entry : Type 0
@@ -54,6 +55,13 @@ with_rows-writes catalog [] = no_writes
 with_rows-writes catalog (o ∷ os) =
     with_row-writes catalog o (with_rows catalog os finmap.empty)
     ∙ ap (λ (ws : List Write). put_write (record { key = record_key o.table (table_of catalog o.table) o.row; row = Some o.row }) ws) (with_rows-writes catalog os)
+
+-- a row is one entry more at most
+pub one_more_at_most : (catalog : Catalog) (o : OpeningRow) (rows : Tables) → finmap.len (with_row catalog o rows) ≤ finmap.len rows + 1
+one_more_at_most catalog o rows =
+    let key : List ℕ = record_key o.table (table_of catalog o.table) o.row in
+    subst (λ (n : ℕ). n ≤ finmap.len rows + 1) (sym (finmap.len-insert nat_list_cmp_total rows key o.row))
+    (elim (finmap.contains_key rows key) as (λ b. cond b (finmap.len rows) (finmap.len rows + 1) ≤ finmap.len rows + 1) [ true ↦ omega arith | false ↦ omega arith ])
 
 -- the last row takes its place first
 pub with_rows-append : (catalog : Catalog) (os : List OpeningRow) (o : OpeningRow) (rows : Tables)
@@ -96,3 +104,12 @@ short_rows (e ∷ es) h = (record { count = h.0.row.fits.count; short = h.0.row.
 pub are_short : (catalog : Catalog) (os : List OpeningRow) (rows : Tables) → row_writes rows ≡ opening_writes catalog os → AllByRecursion WriteFits (opening_writes catalog os)
     → AllByRecursion (λ (e : Entry). IsShortRow e.1) (finmap.entries rows)
 are_short catalog os rows e h = short_rows (finmap.entries rows) (subst (λ (ws : List Write). AllByRecursion WriteFits ws) (sym e) h)
+
+record_rows : (es : List Entry) → AllByRecursion WriteFits (map row_write es) → AllByRecursion (λ (e : Entry). is_record_key e.0 ≡ true) es
+record_rows [] h = tt
+record_rows (e ∷ es) h = (h.0.key.is_record, record_rows es h.1)
+
+-- each opening row stands under a record key
+pub are_records : (catalog : Catalog) (os : List OpeningRow) (rows : Tables) → row_writes rows ≡ opening_writes catalog os → AllByRecursion WriteFits (opening_writes catalog os)
+    → AllByRecursion (λ (e : Entry). is_record_key e.0 ≡ true) (finmap.entries rows)
+are_records catalog os rows e h = record_rows (finmap.entries rows) (subst (λ (ws : List Write). AllByRecursion WriteFits ws) (sym e) h)

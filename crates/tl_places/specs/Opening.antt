@@ -1,7 +1,7 @@
 -- How the store opens: which cells its shards have stored.
-use Rattle.std.specs.Prelude.{◌≡◌, ℕ, ◌==◌, List, [], ◌∷◌, Some, length, slice_get, filter, map}
+use Rattle.std.specs.Prelude.{◌≡◌, ℕ, ◌<◌, ◌==◌, List, [], ◌∷◌, Some, length, slice_get, filter, map}
 use Rattle.std.specs.FinMap as finmap
-use Rattle.tl_cells.specs.Cells.{ShardState}
+use Rattle.tl_cells.specs.Cells.{ShardState, cell_under, greatest}
 use Rattle.tl_cells.specs.Place.{shard_of_key}
 use Rattle.tl_cells.specs.Serves.{Call}
 use Rattle.tl_descriptor.specs.Reading as sets
@@ -37,6 +37,15 @@ stores_at count stored shard = stores_from 0 (filter (λ c. shard_of_key c.0 cou
 pub record HaveStored (count : ℕ) (stored : List Stored) (shards : List ShardState) : Type 0 where
   pub shard_count : length shards ≡ count
   pub each : (s : ℕ) (state : ShardState) → slice_get shards s ≡ Some state → ShardHasServed (stores_at count stored s) state
+
+-- a shard has no cell under this key, and a stamp for it
+pub record HasRoom (key : List ℕ) (state : ShardState) : Type 0 where
+  pub absent : (cell_under key state.cells).stamp ≡ 0
+  pub stamps : state.last < greatest
+
+-- so has the one where the key lives, of so many shards
+abbrev pub HaveRoom : ℕ → List ℕ → List ShardState → Type 0
+HaveRoom count key shards = (state : ShardState) → slice_get shards (shard_of_key key count) ≡ Some state → HasRoom key state
 
 -- a row takes its place by its record key, where one of that key stood before too
 abbrev pub with_row : Catalog → OpeningRow → Tables → Tables

@@ -1,14 +1,16 @@
 //! The store as a run opens.
 
-ghost use Rattle.std.specs.Prelude.{◌≡◌, ◌∷◌, ◌++◌, List, [], length, map, IfOk, OnOk};
+ghost use Rattle.std.specs.Prelude.{◌≡◌, ◌<◌, ◌^◌, ◌∷◌, ◌++◌, List, [], length, map, true, IfOk, OnOk};
 ghost use Rattle.std.specs.FinMap as finmap;
 ghost use Rattle.std.specs.List.{AllByRecursion};
+ghost use Rattle.tl_cells.specs.Cells.{cell_under, greatest};
 ghost use Rattle.tl_versions.specs.Cell.{IsShortRow};
 ghost use Rattle.tl_isolation.specs.Script.{setup_of};
 ghost use Rattle.tl_isolation.specs.Tables.{HasTable, opening_writes};
 ghost use Rattle.tl_journal.specs.Binding.{WriteFits};
 ghost use Rattle.tl_journal.specs.Journal.{opening_cells, stores_from};
-ghost use Rattle.tl_places.specs.Opening.{HaveStored, Stored, commits_cell, row_cell};
+ghost use Rattle.tl_journal.specs.Served.{is_record_key};
+ghost use Rattle.tl_places.specs.Opening.{HaveRoom, HaveStored, Stored, commits_cell, row_cell};
 ghost use Rattle.tl_places.specs.Places.{ShardHasServed};
 
 use crate::rows::{opening_cell, opening_rows};
@@ -64,6 +66,8 @@ fn store_rows(
 ) -> Result<(), NoMemory>
     requires stored { HaveStored layout.shards (commits_cell ∷ []) shards.old.items }
     requires short { AllByRecursion (λ e. IsShortRow e.1) (finmap.entries rows.now) }
+    requires records { AllByRecursion (λ e. is_record_key e.0 ≡ true) (finmap.entries rows.now) }
+    requires few { finmap.len rows.now < 2 ^ 61 }
     ensures { OnOk result (HaveStored layout.shards (commits_cell ∷ map row_cell (finmap.entries rows.now)) shards.new.items) }
 {
     for (key, row) in rows.iter() {
@@ -74,9 +78,10 @@ fn store_rows(
     Ok(())
 }
 
-/// Stores the cell in its shard.
+/// Stores the cell in its shard, which has none of this key and a stamp for it.
 fn store(layout: Layout, shards: &mut Vec<Shard>, key: Bytes, value: Bytes) -> Result<(), NoMemory>
-    requires { length shards.old.items ≡ layout.shards }
+    requires count { length shards.old.items ≡ layout.shards }
+    requires room { HaveRoom layout.shards key shards.old.items }
     ensures { OnOk result ((stored : List Stored) → HaveStored layout.shards stored shards.old.items
         → HaveStored layout.shards (stored ++ (key, value) ∷ []) shards.new.items) }
 {
@@ -85,8 +90,10 @@ fn store(layout: Layout, shards: &mut Vec<Shard>, key: Bytes, value: Bytes) -> R
     Ok(())
 }
 
-/// Stores the cell, which wasn't there before; else it is want of memory.
+/// Stores the cell, which isn't there yet.
 fn store_at(shard: &mut Shard, key: Bytes, value: Bytes) -> Result<(), NoMemory>
+    requires absent { (cell_under key shard.old.cells).stamp ≡ 0 }
+    requires stamps { shard.old.last < greatest }
     ensures { OnOk result ((stored : List Stored) → ShardHasServed (stores_from 0 stored) shard.old
         → ShardHasServed (stores_from 0 (stored ++ (key, value) ∷ [])) shard.new) }
 {
@@ -97,6 +104,6 @@ fn store_at(shard: &mut Shard, key: Bytes, value: Bytes) -> Result<(), NoMemory>
     };
     match shard.apply(&request)? {
         StoreReply::Stored { stamp: _ } => Ok(()),
-        _ => Err(NoMemory),
+        _ => unreachable!(),
     }
 }

@@ -1,6 +1,7 @@
 //! The rows that a script opens with, by their record keys.
 
-ghost use Rattle.std.specs.Prelude.{◌≡◌, IfOk, OnOk, ◌∷◌, [], Some};
+ghost use Rattle.std.specs.Prelude.{◌≡◌, ◌<◌, ◌^◌, IfOk, OnOk, ◌∷◌, [], Some};
+ghost use Rattle.std.specs.FinMap as finmap;
 ghost use Rattle.std.specs.List.{AllByRecursion};
 ghost use Rattle.tl_versions.specs.Cell as cells;
 ghost use Rattle.tl_versions.specs.Cell.{IsShortRow};
@@ -18,7 +19,8 @@ use tl_versions::{Version, Versions};
 /// The rows by their record keys, each in a table of the catalog. Of two with one key the first stands.
 pub fn opening_rows(alloc: Global, script: &Script) -> Result<SortedMap<Row>, NoMemory>
     requires tables { AllByRecursion (λ o. HasTable script.now.catalog o.table) script.now.rows }
-    ensures { IfOk result (λ rows. row_writes rows ≡ opening_writes script.now.catalog script.now.rows) }
+    ensures writes { IfOk result (λ rows. row_writes rows ≡ opening_writes script.now.catalog script.now.rows) }
+    ensures fits { IfOk result (λ rows. finmap.len rows < 2 ^ 61) }
 {
     let mut rows = SortedMap::new(alloc);
     let mut left = script.rows.as_slice();

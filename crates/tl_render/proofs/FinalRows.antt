@@ -1,5 +1,5 @@
 -- At the end of a run the rows that the store shows are those of the tables after all commits.
-use Rattle.std.proofs.Common.{◌≡◌, ℕ, Bool, true, false, cond, T, List, [], ◌∷◌, Option, Some, None, length, map, append-nil, refl, sym, ap, ◌∙◌, subst, arith}
+use Rattle.std.proofs.Common.{◌≡◌, ℕ, Bool, true, false, cond, List, [], ◌∷◌, Option, Some, None, IsSome, is_some, length, map, append-nil, refl, sym, ap, ◌∙◌, subst, arith}
 use Rattle.std.proofs.lemmas.Bool.{and_parts, false≢true}
 use Rattle.std.proofs.lemmas.List.{take_all}
 use Rattle.std.specs.Prelude.{if◌then◌else◌}
@@ -45,9 +45,9 @@ use Rattle.tl_journal.proofs.Opens.{layout_of}
 use Rattle.tl_journal.proofs.Store.{StoreIs}
 use Rattle.tl_journal.proofs.StoreOpening.{opening_store}
 use Rattle.tl_places.specs.Opening.{row_writes}
-use Rattle.tl_render.specs.Stored.{Stored, finished_in, last_stored, row_in, with_cells}
+use Rattle.tl_render.specs.Stored.{AreRead, Stored, finished_in, last_stored, row_in, with_cells}
 use Rattle.tl_render.proofs.LastStores.{cell_last, events_home, value_over}
-use Rattle.tl_render.proofs.ShownRows.{none_below, other_rows, shown_over, shown_rows}
+use Rattle.tl_render.proofs.ShownRows.{each_found, none_below, other_rows, shown_over, shown_rows}
 use Rattle.tl_write.proofs.Keys.{key_eq, key_turned}
 
 abbrev Entry : Type 0
@@ -147,6 +147,22 @@ module _ (script : Script) (settings : Settings) (events : List Event) (run : Is
       by : (o : Option (List ℕ)) → bytes_at script settings events commits_key ≡ value_over o (bytes_at script settings [] commits_key) → finished_in o ≡ Some finished
       by None e = sym opens.holds.commits.read ∙ ap read_set (sym e) ∙ h
       by (Some bytes) e = ap read_set (sym e) ∙ h
+
+  -- it is read,
+  pub finished_read : IsSome (finished_in (last_stored events commits_key))
+  finished_read =
+      let e = ends script settings events run in
+      ap is_some (set_is e.w.commits.finished e.holds.commits)
+
+  -- and so is each record's cell
+  pub each_read : (cells : List Stored) → is_sorted key_cmp cells ≡ true → ((q : Key) → find key_cmp q cells ≡ last_stored events q) → AreRead cells
+  each_read cells sorted last =
+      let e = ends script settings events run in
+      each_found (λ (c : Stored). is_record_key c.0 ≡ true → IsSome (read_cell c.1)) cells sorted
+      (λ (c : Stored) found is.
+      let bytes : bytes_at script settings events c.0 ≡ c.1 =
+      bytes_last c.0 ∙ ap (λ (o : Option (List ℕ)). value_over o (bytes_at script settings [] c.0)) (sym (last c.0) ∙ found) in
+      ap is_some (ap read_cell (sym bytes) ∙ e.holds.records c.0 is))
 
   -- what was stored last in a record's cell shows the row, or else the opening does
   row_is : (set : TidSet) → has set 0 ≡ true → (q : Key) → is_record_key q ≡ true → (versions : List Version) → read_cell (bytes_at script settings events q) ≡ Some versions

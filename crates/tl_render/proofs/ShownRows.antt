@@ -1,10 +1,11 @@
 -- What stands under a key once the rows of cells have taken their places.
-use Rattle.std.proofs.Common.{◌≡◌, ℕ, Bool, true, false, cond, List, [], ◌∷◌, Option, Some, None, Ordering, Less, Equal, Greater, refl, sym, ap, ◌∙◌}
+use Rattle.std.proofs.Common.{◌≡◌, ℕ, Bool, true, false, cond, List, [], ◌∷◌, Option, Some, None, refl, sym, ap, ◌∙◌}
 use Rattle.std.specs.Prelude.{if◌then◌else◌}
 use Rattle.std.specs.Cmp.Lexicographic.{nat_list_cmp_total}
 use Rattle.std.specs.FinMap as finmap
 use Rattle.std.specs.FinMap.Entries.{below_all, find, is_sorted}
-use Rattle.std.specs.Ordering.{is_eq, is_lt}
+use Rattle.std.specs.List.{AllByRecursion}
+use Rattle.std.specs.Ordering.{is_lt}
 use Rattle.std.proofs.lemmas.Bool.{and_parts}
 use Rattle.tl_lemmas.proofs.Orders.{less_differs}
 use Rattle.tl_values.specs.declared.value.Value.{Value}
@@ -15,7 +16,7 @@ use Rattle.tl_descriptor.specs.Tids.{TidSet}
 use Rattle.tl_protocol.specs.Store.{Key, same_key}
 use Rattle.tl_journal.specs.Served.{is_record_key}
 use Rattle.tl_render.specs.Stored.{Stored, put_row, row_in, with_cell, with_cells}
-use Rattle.tl_write.proofs.Keys.{key_eq}
+use Rattle.tl_write.proofs.Keys.{key_eq, key_itself}
 
 -- the row that the bytes show, or where nothing was stored the one that was there
 abbrev pub shown_over : TidSet → Option (List ℕ) → Option (List Value) → Option (List Value)
@@ -28,6 +29,22 @@ none_below k [] h = refl
 none_below k (e ∷ es) h =
     let parts = and_parts (is_lt (key_cmp k e.0)) (below_all key_cmp k es) h in
     ap (λ (b : Bool). cond b (Some e.1) (find key_cmp k es)) (less_differs (key_cmp k e.0) parts.0) ∙ none_below k es parts.1
+
+-- what is so of each cell that is found under its key is so of each cell
+pub each_found : (P : Stored → Type 0) (cs : List Stored) → is_sorted key_cmp cs ≡ true → ((c : Stored) → find key_cmp c.0 cs ≡ Some c.1 → P c) → AllByRecursion P cs
+each_found P [] sorted h = tt
+each_found P (c ∷ cs) sorted h =
+    let parts = and_parts (below_all key_cmp c.0 cs) (is_sorted key_cmp cs) sorted in (
+      h c (ap (λ (b : Bool). cond b (Some c.1) (find key_cmp c.0 cs)) (key_itself c.0)),
+      each_found P cs parts.1 (λ (d : Stored) i. h d (later d i parts.0 (same_key d.0 c.0) refl)),
+    )
+  where
+    later : (d : Stored) → find key_cmp d.0 cs ≡ Some d.1 → below_all key_cmp c.0 cs ≡ true → (b : Bool) → same_key d.0 c.0 ≡ b
+        → cond b (Some c.1) (find key_cmp d.0 cs) ≡ Some d.1
+    later d i below true tied =
+        let none : find key_cmp d.0 cs ≡ None = ap (λ (k : Key). find key_cmp k cs) (key_eq d.0 c.0 tied) ∙ none_below c.0 cs below in
+        absurd cc
+    later d i below false apart = i
 
 get_put : (k : Key) (row : Option (List Value)) (rows : Tables) (q : Key) → finmap.get (put_row k row rows) q ≡ (if same_key q k then row else finmap.get rows q)
 get_put k None rows q = finmap.get-remove nat_list_cmp_total rows k q

@@ -1,6 +1,8 @@
 -- The rows that the store shows at the end of a run, read off what was stored last under each key.
-use Rattle.std.specs.Prelude.{ℕ, List, [], ◌∷◌, Option, Some, None, if◌then◌else◌}
+use Rattle.std.specs.Prelude.{◌≡◌, ℕ, true, List, [], ◌∷◌, Option, Some, None, IsSome, if◌then◌else◌}
 use Rattle.std.specs.FinMap as finmap
+use Rattle.std.specs.List.{AllByRecursion}
+use Rattle.tl_base.specs.declared.place.Settings.{Settings}
 use Rattle.tl_base.specs.declared.store.StoreReply.TheVariants as answered
 use Rattle.tl_base.specs.declared.store.StoreRequest.TheVariants as store
 use Rattle.tl_values.specs.declared.value.Value.{Value}
@@ -14,13 +16,19 @@ use Rattle.tl_manager.specs.State.{opening_copy}
 use Rattle.tl_versions.specs.declared.version.Version.{Version}
 use Rattle.tl_versions.specs.Reading.{read_cell}
 use Rattle.tl_write.specs.Tables.{Tables}
+use Rattle.tl_isolation.specs.declared.script.Script.{Script}
 use Rattle.tl_protocol.specs.Store.{Key, last_of, row_shown, same_key}
 use Rattle.tl_journal.specs.declared.event.Event.{Event}
+use Rattle.tl_journal.specs.Law.{IsRun}
 use Rattle.tl_journal.specs.Served.{is_record_key}
 
 -- the bytes of a cell, with its key
 abbrev pub Stored : Type 0
 Stored = Key × List ℕ
+
+-- these are the events of a run of the script, under some settings
+abbrev pub IsOfRun : Script → List Event → Type 0
+IsOfRun script events = (settings : Settings) × IsRun script settings events
 
 -- what a request stored, if it stored anything
 abbrev pub stored_by : Request → Reply → Option Stored
@@ -41,6 +49,10 @@ last_stored (e ∷ es) key = last_of (stored_at key (stored_by e.request e.reply
 abbrev pub finished_in : Option (List ℕ) → Option TidSet
 finished_in None = Some opening_copy
 finished_in (Some bytes) = read_set bytes
+
+-- the bytes of each record spell versions
+abbrev pub AreRead : List Stored → Type 0
+AreRead cells = AllByRecursion (λ (c : Stored). is_record_key c.0 ≡ true → IsSome (read_cell c.1)) cells
 
 -- the row that the set shows of these versions, if they were read
 abbrev pub row_in : TidSet → Option (List Version) → Option (List Value)

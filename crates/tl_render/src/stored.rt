@@ -1,6 +1,6 @@
 //! The tables after all commits, read off what the store holds, so that no statement is run again.
 
-ghost use Rattle.std.specs.Prelude.{◌≡◌, List, ℕ, Some, map, IfOk, OnOk};
+ghost use Rattle.std.specs.Prelude.{◌≡◌, List, ℕ, Some, map, IfOk, IsSome, OnOk};
 ghost use Rattle.std.specs.Option.{option_copied, option_map};
 ghost use Rattle.std.specs.FinMap as finmap;
 ghost use Rattle.std.specs.List.{AllByRecursion};
@@ -16,7 +16,7 @@ ghost use Rattle.tl_journal.specs.Bytes.{commits_key};
 ghost use Rattle.tl_journal.specs.Journal.{entries_told};
 ghost use Rattle.tl_journal.specs.Law.{IsRun};
 ghost use Rattle.tl_journal.specs.Served.{is_record_key};
-ghost use Rattle.tl_render.specs.Stored.{finished_in, last_stored, put_row, row_in, stored_at, stored_by, with_cells};
+ghost use Rattle.tl_render.specs.Stored.{AreRead, IsOfRun, finished_in, last_stored, put_row, row_in, stored_at, stored_by, with_cells};
 
 use std::alloc::Global;
 use tl_base::{Bytes, Duplicate, NoMemory, StoreReply, StoreRequest};
@@ -30,14 +30,14 @@ use tl_schema::RECORD;
 use tl_values::{Row, copy_row};
 use tl_versions::{CellFault, Versions};
 
-/// The rows of all tables after all commits, under their record keys, where these are the events of a run of the
-/// script.
+/// The rows of all tables after all commits, under their record keys. These are the events of a run of the script.
 pub fn final_rows(
     alloc: Global,
     script: &Script,
     events: &[Event],
 ) -> Result<SortedMap<Row>, NoMemory>
     requires tables { AllByRecursion (λ o. HasTable script.now.catalog o.table) script.now.rows }
+    requires run { IsOfRun script.now events.now }
     ensures { IfOk result (λ rows. (settings : Settings) → IsRun script.now settings events.now
         → rows ≡ tables_after (state_after (setup_of script.now settings) (entries_told events.now)).commits) }
 {
@@ -85,22 +85,25 @@ fn stored_by(event: &Event) -> Option<(&Bytes, &Bytes)>
 
 // The transactions that are finished: those of the commits cell, or tid 0 alone where it was never stored.
 fn last_finished(alloc: Global, stores: &SortedMap<&Bytes>) -> Result<Descriptor, NoMemory>
+    requires { IsSome (finished_in (option_copied (finmap.get stores.now commits_key))) }
     ensures { IfOk result (λ set. finished_in (option_copied (finmap.get stores.now commits_key)) ≡ Some set) }
 {
     let key = Bytes::from_slice(alloc, &[1])?;
     match stores.get(&key) {
-        Some(value) => read_finished(alloc, value),
+        Some(value) => read_finished(alloc, value.as_slice()),
         None => Ok(Descriptor::new(alloc, 0)),
     }
 }
 
-// No commits cell of a run is faulty; one that were so would be want of memory.
-fn read_finished(alloc: Global, cell: &Bytes) -> Result<Descriptor, NoMemory>
+// The set that the bytes spell.
+fn read_finished(alloc: Global, cell: &[u8]) -> Result<Descriptor, NoMemory>
+    requires { IsSome (read_set cell.now) }
     ensures { IfOk result (λ set. read_set cell.now ≡ Some set) }
 {
-    match Descriptor::decode(alloc, cell.as_slice()) {
+    match Descriptor::decode(alloc, cell) {
         Ok(set) => Ok(set),
-        Err(DescriptorFault::BadDescriptor | DescriptorFault::NoMemory) => Err(NoMemory),
+        Err(DescriptorFault::NoMemory) => Err(NoMemory),
+        Err(DescriptorFault::BadDescriptor) => unreachable!(),
     }
 }
 
@@ -111,6 +114,7 @@ fn show_rows(
     stores: &SortedMap<&Bytes>,
     finished: &Descriptor,
 ) -> Result<(), NoMemory>
+    requires { AreRead (map (λ e. (e.0, e.1.now)) (finmap.entries stores.now)) }
     ensures { OnOk result (rows.new ≡ with_cells finished.now (map (λ e. (e.0, e.1.now)) (finmap.entries stores.now)) rows.old) }
 {
     for (key, cell) in stores {
@@ -138,9 +142,10 @@ fn show_row(
     cell: &Bytes,
     finished: &Descriptor,
 ) -> Result<(), NoMemory>
+    requires { IsSome (read_cell cell.now) }
     ensures { OnOk result (rows.new ≡ put_row key.now (row_in finished.now (read_cell cell.now)) rows.old) }
 {
-    let versions = read_versions(alloc, cell)?;
+    let versions = read_versions(alloc, cell.as_slice())?;
     let row = row_shown(&versions, finished);
     put_row(rows, key, row)?;
     Ok(())
@@ -162,13 +167,15 @@ fn put_row(rows: &mut SortedMap<Row>, key: &Bytes, row: Option<&Row>) -> Result<
     Ok(())
 }
 
-// No record cell of a run is faulty; one that were so would be want of memory.
-fn read_versions(alloc: Global, cell: &Bytes) -> Result<Versions, NoMemory>
+// The versions that the bytes spell.
+fn read_versions(alloc: Global, cell: &[u8]) -> Result<Versions, NoMemory>
+    requires { IsSome (read_cell cell.now) }
     ensures { IfOk result (λ versions. read_cell cell.now ≡ Some versions) }
 {
-    match Versions::decode(alloc, cell.as_slice()) {
+    match Versions::decode(alloc, cell) {
         Ok(versions) => Ok(versions),
-        Err(CellFault::BadCell | CellFault::NoMemory) => Err(NoMemory),
+        Err(CellFault::NoMemory) => Err(NoMemory),
+        Err(CellFault::BadCell) => unreachable!(),
     }
 }
 

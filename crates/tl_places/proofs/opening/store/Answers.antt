@@ -8,7 +8,7 @@ returns c =
     let same : c.from.result ≡ shard_of_key c.args.key c.args.layout.shards =
     c.from.ensures ∙ c.shard_of-at.ensures.shard ∙ (λ i. shard_of_key (c.as_slice.ensures i) (c.shards.ensures.value i)) in
     let below = c.shard_of-at.ensures.within in
-    let all = c.requires in
+    let all = c.requires.count in
     let count = c.shards.ensures.value in
     let at = c.from.ensures in
     let within : c.from.result < length c.args.shards.now.items = omega arith in

@@ -15,4 +15,12 @@ returns-clause-text c =
     c.in_ok-journal.ensures)
 
 pub render-requires : goal.render-requires
-render-requires c = record { tables = opening_tables c.args.script.now c.args.settings.now c.requires.bound }
+render-requires c = record {
+  tables = opening_tables c.args.script.now c.args.settings.now c.requires.bound;
+  run = (
+    c.args.settings.now,
+    is_run c.args.script.now c.args.settings.now c.in_ok-journal.journal.events c.requires.bound c.requires.least_shards
+        c.requires.greatest_shards c.requires.least_managers c.requires.greatest_managers
+        c.in_ok-journal.ensures,
+  );
+}
