@@ -1,6 +1,8 @@
 -- What a reply is taken for in each case, where a transaction stores its versions or removes them.
 use Rattle.std.proofs.Common.{◌≡◌, ℕ, ◌+◌, Bool, true, false, Option, Some, None, refl, sym, ap, subst}
+use Rattle.std.specs.Prelude.{slice_get}
 use Rattle.tl_base.specs.declared.place.Settings.{Settings}
+use Rattle.tl_logrec.specs.declared.entry.Flag.TheVariants as flag
 use Rattle.tl_manager.specs.declared.mark.Mark.{Mark}
 use Rattle.tl_manager.specs.declared.mark.Mark.TheVariants as mark
 use Rattle.tl_manager.specs.declared.request.ManagerRequest.TheVariants as request
@@ -9,16 +11,18 @@ use Rattle.tl_schema.specs.declared.catalog.Catalog.{Catalog}
 use Rattle.tl_versions.specs.Versions.{is_written, stranger, strip}
 use Rattle.tl_write.specs.declared.write.Write.{Write}
 use Rattle.tl_protocol.specs.Store.{Cell}
-use Rattle.tl_journal.specs.Ask.{Heard, AskManager, StoreRecord, Commits, Log, Record, Page, Stored, Moved, Numbers, Told, Strange}
+use Rattle.tl_journal.specs.Ask.{Heard, AskManager, LoadRecord, StoreLog, StoreRecord, Record, Strange}
 use Rattle.tl_journal.specs.Bytes.{home_of}
 use Rattle.tl_ask.specs.Hears.{hears_record, hears_store, store_or_strange}
 use Rattle.tl_ask.specs.declared.heard.StoreOutcome.{StoreOutcome}
 use Rattle.tl_ask.specs.declared.heard.StoreOutcome.TheVariants as outcome
 use Rattle.tl_txn.proofs.Told.{loading_told, removing_told}
 use Rattle.tl_txn.specs.After.{IsTold}
+use Rattle.tl_txn.specs.Attempt.{Attempt, entry_of}
 use Rattle.tl_txn.specs.Hears.{hears_own}
-use Rattle.tl_txn.specs.Taken.{Taken, finds, finished_as, going, removing, storing, strange, takes_closing, takes_removing, takes_storing}
+use Rattle.tl_txn.specs.Taken.{Taken, ask_removal, finds, finished_as, going, removal_at, removing, storing, strange, takes_closing, takes_removing, takes_storing}
 use Rattle.tl_txn.specs.declared.phase.Decision.{Decision}
+use Rattle.tl_txn.specs.declared.phase.Phase.{Phase}
 use Rattle.tl_txn.specs.declared.phase.Phase.TheVariants as phase
 use Rattle.tl_txn.specs.declared.phase.Removing.{Removing}
 use Rattle.tl_txn.specs.declared.phase.Storing.{Storing}
@@ -74,30 +78,35 @@ clashes s w o cell rival e odd free = rw (e, odd, free) refl
 pub not_loaded : (s : Storing) (w : Option Write) (o : Write) → w ≡ Some o → takes_storing s false w Strange ≡ strange
 not_loaded s w o e = rw e refl
 
-pub is_stored : (s : Storing) (w : Option Write) (o : Write) (stamp : ℕ) → w ≡ Some o
-    → takes_storing s true w (Stored stamp) ≡ storing (record s { stored = s.stored + 1; loaded = false }) mark.Quiet
-is_stored s w o stamp e = rw e refl
+pub is_stored : (s : Storing) (w : Option Write) (o : Write) (told : Option StoreOutcome) (one : StoreOutcome) (stamp : ℕ)
+    → told ≡ Some one → one ≡ outcome.Stored stamp → w ≡ Some o
+    → takes_storing s true w (store_or_strange told) ≡ storing (record s { stored = s.stored + 1; loaded = false }) mark.Quiet
+is_stored s w o None one stamp e f g = absurd cc
+is_stored s w o (Some outcome.Moved) one stamp e f g = absurd cc
+is_stored s w o (Some (outcome.Stored at)) one stamp e f g = rw g refl
 
-pub has_moved : (s : Storing) (w : Option Write) (o : Write) → w ≡ Some o → takes_storing s true w Moved ≡ storing (record s { loaded = false }) mark.Quiet
-has_moved s w o e = rw e refl
+pub has_moved : (s : Storing) (w : Option Write) (o : Write) (told : Option StoreOutcome) (one : StoreOutcome) → told ≡ Some one → one ≡ outcome.Moved
+    → w ≡ Some o → takes_storing s true w (store_or_strange told) ≡ storing (record s { loaded = false }) mark.Quiet
+has_moved s w o None one e f g = absurd cc
+has_moved s w o (Some outcome.Moved) one e f g = rw g refl
+has_moved s w o (Some (outcome.Stored at)) one e f g = absurd cc
 
 pub not_stored : (s : Storing) (w : Option Write) (o : Write) → w ≡ Some o → takes_storing s true w Strange ≡ strange
 not_stored s w o e = rw e refl
 
-nothing_stored : (s : Storing) (h : Heard) → takes_storing s true None h ≡ strange
-nothing_stored s (Commits c) = refl
-nothing_stored s (Log l) = refl
-nothing_stored s (Record c) = refl
-nothing_stored s (Page found more) = refl
-nothing_stored s (Stored stamp) = refl
-nothing_stored s Moved = refl
-nothing_stored s (Numbers old) = refl
-nothing_stored s (Told m) = refl
-nothing_stored s Strange = refl
+-- the own record in hand is to be loaded
+pub loads_next : (s : Storing) (p : Phase) (o : Write) (told : Mark) → p ≡ phase.Storing s → slice_get s.attempt.own s.stored ≡ Some o
+    → storing s told ≡ going p (LoadRecord o.key) told
+loads_next s p o told e w = rw (e, w) refl
 
-pub nothing_to_store : (s : Storing) (w : Option Write) (h : Heard) → w ≡ None → takes_storing s true w h ≡ strange
-nothing_to_store s None h e = nothing_stored s h
-nothing_to_store s (Some o) h e = absurd cc
+-- none is left
+pub decides : (s : Storing) (a : Attempt) (told : Mark) → s.loaded ≡ false → slice_get s.attempt.own s.stored ≡ None → a ≡ s.attempt
+    → storing s told
+    ≡ going (phase.Storing (record { attempt = a; log = s.log; stored = s.stored; loaded = false })) (StoreLog s.log (entry_of s.attempt flag.Decided)) told
+decides s a told e n h =
+    subst (λ (b : Bool). storing s told
+    ≡ going (phase.Storing (record { attempt = a; log = s.log; stored = s.stored; loaded = b })) (StoreLog s.log (entry_of s.attempt flag.Decided)) told) e
+    (rw (n, h) refl)
 
 -- ---- it removes them
 
@@ -109,30 +118,40 @@ is_loaded r w o cell e = rw e refl
 pub none_loaded : (r : Removing) (w : Option Write) (o : Write) → w ≡ Some o → takes_removing r false w Strange ≡ strange
 none_loaded r w o e = rw e refl
 
-pub is_removed : (r : Removing) (w : Option Write) (o : Write) (stamp : ℕ) → w ≡ Some o
-    → takes_removing r true w (Stored stamp) ≡ removing (record r { removed = r.removed + 1; loaded = false }) mark.Quiet
-is_removed r w o stamp e = rw e refl
+pub is_removed : (r : Removing) (w : Option Write) (o : Write) (told : Option StoreOutcome) (one : StoreOutcome) (stamp : ℕ)
+    → told ≡ Some one → one ≡ outcome.Stored stamp → w ≡ Some o
+    → takes_removing r true w (store_or_strange told) ≡ removing (record r { removed = r.removed + 1; loaded = false }) mark.Quiet
+is_removed r w o None one stamp e f g = absurd cc
+is_removed r w o (Some outcome.Moved) one stamp e f g = absurd cc
+is_removed r w o (Some (outcome.Stored at)) one stamp e f g = rw g refl
 
-pub moved_again : (r : Removing) (w : Option Write) (o : Write) → w ≡ Some o → takes_removing r true w Moved ≡ removing (record r { loaded = false }) mark.Quiet
-moved_again r w o e = rw e refl
+pub moved_again : (r : Removing) (w : Option Write) (o : Write) (told : Option StoreOutcome) (one : StoreOutcome) → told ≡ Some one → one ≡ outcome.Moved
+    → w ≡ Some o → takes_removing r true w (store_or_strange told) ≡ removing (record r { loaded = false }) mark.Quiet
+moved_again r w o None one e f g = absurd cc
+moved_again r w o (Some outcome.Moved) one e f g = rw g refl
+moved_again r w o (Some (outcome.Stored at)) one e f g = absurd cc
 
 pub not_removed : (r : Removing) (w : Option Write) (o : Write) → w ≡ Some o → takes_removing r true w Strange ≡ strange
 not_removed r w o e = rw e refl
 
-nothing_removed : (r : Removing) (h : Heard) → takes_removing r true None h ≡ strange
-nothing_removed r (Commits c) = refl
-nothing_removed r (Log l) = refl
-nothing_removed r (Record c) = refl
-nothing_removed r (Page found more) = refl
-nothing_removed r (Stored stamp) = refl
-nothing_removed r Moved = refl
-nothing_removed r (Numbers old) = refl
-nothing_removed r (Told m) = refl
-nothing_removed r Strange = refl
+-- the own record in hand is to be loaded
+pub loads_removal : (r : Removing) (p : Phase) (o : Write) (told : Mark) → p ≡ phase.Removing r → removal_at r ≡ Some o
+    → removing r told ≡ going p (LoadRecord o.key) told
+loads_removal r p o told e w =
+    subst (λ (v : Option Write). going (phase.Removing r) (ask_removal r v) told ≡ going p (LoadRecord o.key) told) (sym w) (rw e refl)
 
-pub nothing_to_remove : (r : Removing) (w : Option Write) (h : Heard) → w ≡ None → takes_removing r true w h ≡ strange
-nothing_to_remove r None h e = nothing_removed r h
-nothing_to_remove r (Some o) h e = absurd cc
+-- none is left
+pub is_undone : (r : Removing) (a : Attempt) (told : Mark) → r.loaded ≡ false → removal_at r ≡ None → a ≡ r.attempt
+    → removing r told
+    ≡ going (phase.Removing (record { attempt = a; log = r.log; rival = r.rival; stored = r.stored; removed = r.removed; loaded = false }))
+    (StoreLog r.log (entry_of r.attempt flag.Undone)) told
+is_undone r a told e n h =
+    subst (λ (v : Option Write). going (phase.Removing r) (ask_removal r v) told
+    ≡ going (phase.Removing (record { attempt = a; log = r.log; rival = r.rival; stored = r.stored; removed = r.removed; loaded = false }))
+    (StoreLog r.log (entry_of r.attempt flag.Undone)) told) (sym n)
+    (subst (λ (b : Bool). going (phase.Removing r) (StoreLog r.log (entry_of r.attempt flag.Undone)) told
+    ≡ going (phase.Removing (record { attempt = a; log = r.log; rival = r.rival; stored = r.stored; removed = r.removed; loaded = b }))
+    (StoreLog r.log (entry_of r.attempt flag.Undone)) told) e (rw h refl))
 
 -- ---- it is put among the finished ones
 

@@ -1,6 +1,5 @@
 -- A transaction that tries to commit.
-use Rattle.std.specs.Prelude.{◌≡◌, ◌<◌, ℕ, ◌^◌, List, map, length, Option}
-use Rattle.std.specs.Option.{IfSome}
+use Rattle.std.specs.Prelude.{◌≡◌, ◌<◌, ℕ, ◌^◌, List, map, length}
 use Rattle.tl_descriptor.specs.Tids.{TidSet}
 use Rattle.tl_logrec.specs.Entry.{spelling}
 use Rattle.tl_logrec.specs.declared.entry.Flag.{Flag}
@@ -25,8 +24,8 @@ entry_of a flag = record { tid = a.tid; node = a.node; flag = flag; writes = map
 abbrev pub txn_of : Stage → Attempt → Txn
 txn_of stage a = record { tid = a.tid; snapshot = a.snapshot; own = a.own; stage = stage }
 
--- the values of its log cell are at hand until they are stored, and its writes have a number of four bytes
-pub record IsPrepared (a : Attempt) (decided undone : Option (List ℕ)) : Type 0 where
-  pub decided_is : IfSome decided (λ value. value ≡ spelling (entry_of a flag.Decided))
-  pub undone_is : IfSome undone (λ value. value ≡ spelling (entry_of a flag.Undone))
+-- the values of its log cell are at hand, and its writes have a number of four bytes
+pub record IsPrepared (a : Attempt) (decided undone : List ℕ) : Type 0 where
+  pub decided_is : decided ≡ spelling (entry_of a flag.Decided)
+  pub undone_is : undone ≡ spelling (entry_of a flag.Undone)
   pub few : length a.own < 2 ^ 32

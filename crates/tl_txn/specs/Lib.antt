@@ -1,6 +1,7 @@
 pub mod After
 pub mod Attempt
 pub mod Calls
+pub mod Course
 pub mod Doing
 pub mod Follows
 pub mod Hears

@@ -1,18 +1,18 @@
-ghost use Rattle.std.specs.Prelude.{◌≡◌, ◌<◌, ◌^◌, IfOk, IsTrue, OnOk, Some, length, slice_get, map, All};
+ghost use Rattle.std.specs.Prelude.{◌≡◌, ◌<◌, ◌^◌, IfOk, IsTrue, Some, length, slice_get};
 ghost use Rattle.std.specs.Option.{option_copied};
-ghost use Rattle.tl_logrec.specs.Entry.{AreWrites, spelling};
-ghost use Rattle.tl_logrec.specs.Keys.{IsKey};
+ghost use Rattle.tl_logrec.specs.Entry.{spelling};
 ghost use Rattle.tl_logrec.specs.declared.entry.Flag.TheVariants as flag;
 ghost use Rattle.tl_write.specs.Own.{is_rising};
-ghost use Rattle.tl_txn.specs.Attempt.{Attempt as TheAttempt, IsPrepared, entry_of};
+ghost use Rattle.tl_ask.specs.Asked.{asked};
+ghost use Rattle.tl_journal.specs.Ask.{LoadRecord};
+ghost use Rattle.tl_txn.specs.Attempt.{entry_of};
 ghost use Rattle.tl_txn.specs.Calls.{attempt_of};
 
 use crate::phase::Open;
 use std::marker::Model;
-use tl_ask::TxnId;
-use tl_base::{Bytes, Keys, NoMemory, NodeId};
+use tl_ask::{Asked, Layout, TxnId, load_record};
+use tl_base::{Bytes, Duplicate, NoMemory, NodeId};
 use tl_descriptor::Descriptor;
-use tl_logrec::{Flag, LogEntry};
 use tl_write::{Buffer, Write};
 
 /// A transaction that tries to commit: its node, what it sees and writes, and the low-water mark down to which it drops
@@ -24,10 +24,10 @@ pub struct Attempt {
     snapshot: Descriptor,
     own: Buffer,
     floor: Descriptor,
-    /// The value of the log cell that says that it is committed, until that is stored.
-    decided: Option<Bytes>,
+    /// The value of the log cell that says that it is committed.
+    decided: Bytes,
     /// The one that says that none of its versions stands.
-    undone: Option<Bytes>,
+    undone: Bytes,
 }
 
 impl Model for Attempt {
@@ -38,6 +38,32 @@ impl Model for Attempt {
     ghost view = { λ a. record { node = a.node; tid = a.tid; snapshot = a.snapshot; own = a.own; floor = a.floor } };
 
     ghost invariant = { λ a. IsPrepared (record { node = a.node; tid = a.tid; snapshot = a.snapshot; own = a.own; floor = a.floor }) a.decided a.undone };
+}
+
+/// An attempt that has given away the value of its log cell that says how it ends.
+#[derive(Drop)]
+pub struct Settled {
+    node: NodeId,
+    tid: TxnId,
+    snapshot: Descriptor,
+    own: Buffer,
+    floor: Descriptor,
+}
+
+impl Model for Settled {
+    ghost use Rattle.tl_txn.specs.Attempt.{Attempt as TheAttempt};
+
+    ghost Value = { TheAttempt };
+
+    ghost view = { λ a. record { node = a.node; tid = a.tid; snapshot = a.snapshot; own = a.own; floor = a.floor } };
+}
+
+impl Settled {
+    pub fn tid(&self) -> TxnId
+        ensures { result ≡ self.now.tid }
+    {
+        self.tid
+    }
 }
 
 impl Attempt {
@@ -66,8 +92,8 @@ impl Attempt {
             snapshot,
             own,
             floor,
-            decided: Some(decided),
-            undone: Some(undone),
+            decided,
+            undone,
         }
     }
 
@@ -114,19 +140,58 @@ impl Attempt {
         &self.own.writes()[at]
     }
 
-    /// The value of the log cell that says that it is committed. It is given once.
-    pub fn take_decided(&mut self) -> Result<Bytes, NoMemory>
-        ensures same { self.new ≡ self.old }
-        ensures value { IfOk result (λ value. value ≡ spelling (entry_of self.old flag.Decided)) }
+    /// What is left of it, and the value of the log cell that says that it is committed.
+    pub fn decide(self) -> (Settled, Bytes)
+        ensures same { result.0 ≡ self }
+        ensures value { result.1 ≡ spelling (entry_of self flag.Decided) }
     {
-        self.decided.take().ok_or(NoMemory)
+        let Attempt {
+            node,
+            tid,
+            snapshot,
+            own,
+            floor,
+            decided,
+            undone: _,
+        } = self;
+        let settled = Settled {
+            node,
+            tid,
+            snapshot,
+            own,
+            floor,
+        };
+        (settled, decided)
     }
 
-    /// The value of the log cell that says that none of its versions stands. It is given once.
-    pub fn take_undone(&mut self) -> Result<Bytes, NoMemory>
-        ensures same { self.new ≡ self.old }
-        ensures value { IfOk result (λ value. value ≡ spelling (entry_of self.old flag.Undone)) }
+    /// What is left of it, and the value of the log cell that says that none of its versions stands.
+    pub fn undo(self) -> (Settled, Bytes)
+        ensures same { result.0 ≡ self }
+        ensures value { result.1 ≡ spelling (entry_of self flag.Undone) }
     {
-        self.undone.take().ok_or(NoMemory)
+        let Attempt {
+            node,
+            tid,
+            snapshot,
+            own,
+            floor,
+            decided: _,
+            undone,
+        } = self;
+        let settled = Settled {
+            node,
+            tid,
+            snapshot,
+            own,
+            floor,
+        };
+        (settled, undone)
     }
+}
+
+/// An own record is to be loaded.
+pub fn load_own(layout: Layout, own: &Write) -> Result<Asked, NoMemory>
+    ensures { IfOk result (λ ask. ask ≡ asked layout (LoadRecord own.now.key)) }
+{
+    Ok(load_record(layout, own.key.copy()?))
 }

@@ -9,21 +9,22 @@ ghost use Rattle.tl_journal.specs.Ask.{StoreRecord};
 ghost use Rattle.tl_versions.specs.Versions.{is_written, prune};
 ghost use Rattle.tl_write.specs.declared.write.Write.{Write as TheWrite};
 ghost use Rattle.tl_txn.specs.After.{IsTaken};
+ghost use Rattle.tl_txn.specs.Course as course;
+ghost use Rattle.tl_txn.specs.declared.phase.Phase.TheVariants as phase;
 ghost use Rattle.tl_txn.specs.Hears.{hears_own};
 ghost use Rattle.tl_txn.specs.Taken as taken;
-ghost use Rattle.tl_txn.specs.Taken.{ask_store, finds, next_versions, takes_storing, takes_trying};
+ghost use Rattle.tl_txn.specs.Taken.{finds, next_versions, takes_storing, takes_trying};
 
 use crate::after::After;
-use crate::attempt::Attempt;
+use crate::attempt::{Attempt, load_own};
 use crate::finish::load_again;
-use crate::phase::{Decision, Phase, Storing};
+use crate::phase::{Deciding, Decision, Phase, Stores, StoresAt, Storing};
 use crate::reading::copy_shown;
 use crate::short::check_short;
 use crate::undo::undo;
 use std::alloc::Global;
 use tl_ask::{
-    Asked, Layout, RecordCell, StoreOutcome, hear_record, hear_store, load_record, store_log,
-    store_record,
+    Asked, Layout, RecordCell, StoreOutcome, hear_record, hear_store, store_log, store_record,
 };
 use tl_base::{Duplicate, NoMemory, Tid};
 use tl_manager::{Mark, Reply};
@@ -64,45 +65,81 @@ fn take_trying(
 
 /// The next own record is to be loaded, or the decision stored where there is none.
 fn store_next(alloc: Global, layout: Layout, storing: Storing, mark: Mark) -> After
+    requires { storing.loaded ≡ false }
     ensures { IsTaken layout (taken.storing storing mark) result }
 {
-    let mut storing = storing;
-    let ask = ask_store(alloc, layout, &mut storing);
-    After::going(mark, Phase::Storing(storing), ask)
+    if let Some(write) = storing.attempt.own_at(storing.stored) {
+        let ask = load_own(layout, write);
+        return After::going(mark, record_in_hand(storing), ask);
+    }
+    store_decision(alloc, layout, storing, mark)
 }
 
-fn ask_store(alloc: Global, layout: Layout, storing: &mut Storing) -> Result<Asked, NoMemory>
-    ensures same { storing.new ≡ storing.old }
-    ensures ask { IfOk result (λ ask. ask ≡ asked layout (ask_store storing.old (slice_get storing.old.attempt.own storing.old.stored))) }
+/// It awaits what comes of the own record in hand.
+fn record_in_hand(storing: Storing) -> Phase
+    requires { storing.stored < length storing.attempt.own }
+    ensures { result ≡ phase.Storing storing }
 {
-    if let Some(write) = storing.attempt.own_at(storing.stored) {
-        return Ok(load_record(layout, write.key.copy()?));
-    }
-    let value = storing.attempt.take_decided()?;
-    store_log(
-        alloc,
-        layout,
-        storing.log,
-        storing.attempt.tid().get(),
-        value,
-    )
+    Phase::Storing(Stores {
+        at: StoresAt::Record(storing),
+    })
+}
+
+/// All own records bear its version: its log cell is to say that it is committed.
+fn store_decision(alloc: Global, layout: Layout, storing: Storing, mark: Mark) -> After
+    requires waits { storing.loaded ≡ false }
+    requires none { slice_get storing.attempt.own storing.stored ≡ None }
+    ensures { IsTaken layout (taken.storing storing mark) result }
+{
+    let Storing {
+        attempt,
+        log,
+        stored,
+        loaded: _,
+    } = storing;
+    let tid = attempt.tid().get();
+    let (attempt, value) = attempt.decide();
+    let ask = store_log(alloc, layout, log, tid, value);
+    let phase = Phase::Storing(Stores {
+        at: StoresAt::Decision(Deciding {
+            attempt,
+            log,
+            stored,
+        }),
+    });
+    After::going(mark, phase, ask)
 }
 
 pub fn hear_storing(
     alloc: Global,
     catalog: &Catalog,
     layout: Layout,
+    stores: Stores,
+    reply: &Reply,
+) -> After
+    ensures { IsTaken layout (takes_storing stores stores.loaded (slice_get stores.attempt.own stores.stored) (hears_own catalog.now stores.loaded (slice_get stores.attempt.own stores.stored) reply.now)) result }
+{
+    match stores.at {
+        StoresAt::Record(storing) => hear_record_stored(alloc, catalog, layout, storing, reply),
+        StoresAt::Decision(deciding) => take_decided(alloc, layout, deciding, hear_store(reply)),
+    }
+}
+
+/// The own record in hand is loaded, or stored.
+fn hear_record_stored(
+    alloc: Global,
+    catalog: &Catalog,
+    layout: Layout,
     storing: Storing,
     reply: &Reply,
 ) -> After
+    requires { storing.stored < length storing.attempt.own }
     ensures { IsTaken layout (takes_storing storing storing.loaded (slice_get storing.attempt.own storing.stored) (hears_own catalog.now storing.loaded (slice_get storing.attempt.own storing.stored) reply.now)) result }
 {
     if storing.loaded {
         return take_stored(alloc, layout, storing, hear_store(reply));
     }
-    let Some(own) = storing.attempt.own_at(storing.stored) else {
-        return take_decided(alloc, layout, storing, hear_store(reply));
-    };
+    let own = storing.attempt.own_within(storing.stored);
     match hear_record(alloc, catalog, &own.key, reply) {
         Ok(cell) => take_loaded(alloc, layout, storing, cell),
         Err(NoMemory) => After::out(Mark::Quiet),
@@ -113,17 +150,17 @@ pub fn hear_storing(
 fn take_decided(
     alloc: Global,
     layout: Layout,
-    storing: Storing,
+    deciding: Deciding,
     outcome: Option<StoreOutcome>,
 ) -> After
-    ensures { IsTaken layout (takes_storing storing false None (store_or_strange outcome)) result }
+    ensures { IsTaken layout (takes_storing (course.decision deciding) false None (store_or_strange outcome)) result }
 {
     match outcome {
         Some(StoreOutcome::Stored(_)) => {
             load_again(
                 alloc,
                 layout,
-                storing.attempt.tid(),
+                deciding.attempt.tid(),
                 Decision::Commit,
                 Mark::Quiet,
             )
@@ -139,11 +176,10 @@ fn take_stored(
     storing: Storing,
     outcome: Option<StoreOutcome>,
 ) -> After
+    requires { storing.stored < length storing.attempt.own }
     ensures { IsTaken layout (takes_storing storing true (slice_get storing.attempt.own storing.stored) (store_or_strange outcome)) result }
 {
-    if storing.stored >= storing.attempt.len() {
-        return After::strange();
-    }
+    let _few = storing.attempt.len();
     let mut storing = storing;
     storing.loaded = false;
     match outcome {
@@ -188,7 +224,7 @@ fn store_own(layout: Layout, storing: Storing, cell: RecordCell) -> After
     let ask = ask_own(layout, &storing.attempt, storing.stored, cell);
     let mut storing = storing;
     storing.loaded = true;
-    After::going(Mark::Quiet, Phase::Storing(storing), ask)
+    After::going(Mark::Quiet, record_in_hand(storing), ask)
 }
 
 fn ask_own(

@@ -4,7 +4,7 @@ ghost use Rattle.std.specs.Prelude.{◌≡◌, IfOk, true, false};
 ghost use Rattle.std.specs.Option.{option_copied};
 ghost use Rattle.tl_ask.specs.Asked.{asked};
 ghost use Rattle.tl_ask.specs.Hears.{commits_or_strange, hears_commits, hears_manager, store_or_strange, told_or_strange};
-ghost use Rattle.tl_descriptor.specs.Tids.{inserted};
+ghost use Rattle.tl_descriptor.specs.Tids.{has, inserted};
 ghost use Rattle.tl_journal.specs.Ask.{LoadCommits, StoreCommits};
 ghost use Rattle.tl_txn.specs.After.{IsTaken};
 ghost use Rattle.tl_txn.specs.Hears.{hears_closing};
@@ -18,6 +18,7 @@ use tl_ask::{
     hear_store, load_commits, store_commits,
 };
 use tl_base::{NoMemory, NodeId};
+use tl_descriptor::InsertFault;
 use tl_manager::{ManagerReply, ManagerRequest, Mark, Reply, TxnStep};
 
 pub fn hear_trying_nothing(alloc: Global, layout: Layout, live: Open, reply: &Reply) -> After
@@ -103,12 +104,18 @@ fn ask_finish(
     tid: TxnId,
     cell: CommitsCell,
 ) -> Result<Asked, NoMemory>
+    requires { has cell.finished tid ≡ false }
     ensures { IfOk result (λ ask. ask ≡ asked layout (StoreCommits cell.stamp (inserted cell.finished tid))) }
 {
-    let CommitsCell { stamp, finished } = cell;
-    let mut finished = finished;
-    finished.insert(tid.get()).map_err(|_| NoMemory)?;
-    store_commits(alloc, layout, stamp, &finished)
+    let CommitsCell {
+        stamp,
+        mut finished,
+    } = cell;
+    match finished.insert(tid.get()) {
+        Ok(()) => store_commits(alloc, layout, stamp, &finished),
+        Err(InsertFault::Present) => unreachable!(),
+        Err(InsertFault::NoMemory) => Err(NoMemory),
+    }
 }
 
 pub fn hear_closing(

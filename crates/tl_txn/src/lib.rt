@@ -14,7 +14,10 @@ mod short;
 mod txn;
 mod undo;
 
-pub use attempt::Attempt;
+pub use attempt::{Attempt, Settled};
 pub use law::transactions_follow_the_node;
-pub use phase::{Decision, Open, PageRead, Phase, Read, Removing, Storing};
+pub use phase::{
+    Deciding, Decision, Open, PageRead, Phase, Read, Removes, RemovesAt, Removing, Stores,
+    StoresAt, Storing, Undoing,
+};
 pub use txn::Txn;

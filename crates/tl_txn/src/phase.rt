@@ -1,4 +1,7 @@
-use crate::attempt::Attempt;
+ghost use Rattle.std.specs.Prelude.{◌≡◌};
+
+use crate::attempt::{Attempt, Settled};
+use std::marker::Model;
 use tl_ask::TxnId;
 use tl_base::{Bytes, Stamp};
 use tl_descriptor::Descriptor;
@@ -52,6 +55,40 @@ pub struct Storing {
     pub loaded: bool,
 }
 
+/// An attempt whose versions all stand, and whose log cell is stored as decided.
+#[derive(Drop)]
+pub struct Deciding {
+    pub attempt: Settled,
+    pub log: Stamp,
+    pub stored: usize,
+}
+
+/// What an attempt to commit stores.
+#[derive(Drop)]
+pub enum StoresAt {
+    /// The next own record.
+    Record(Storing),
+    /// Its decision.
+    Decision(Deciding),
+}
+
+/// An attempt that stores its versions and then its decision: in contracts a `Storing`.
+#[derive(Drop)]
+pub struct Stores {
+    pub at: StoresAt,
+}
+
+impl Model for Stores {
+    ghost use Rattle.tl_txn.specs.Course.{IsStoring, storing_at};
+    ghost use Rattle.tl_txn.specs.declared.phase.Storing.{Storing as TheStoring};
+
+    ghost Value = { TheStoring };
+
+    ghost view = { λ s. storing_at s.at };
+
+    ghost invariant = { λ s. IsStoring s.at };
+}
+
 /// An attempt that removes its versions from the first `stored` own records: from how many they are removed already, and
 /// whether the next one is loaded.
 #[derive(Drop)]
@@ -62,6 +99,54 @@ pub struct Removing {
     pub stored: usize,
     pub removed: usize,
     pub loaded: bool,
+}
+
+/// An attempt none of whose versions stands, and whose log cell is stored as undone.
+#[derive(Drop)]
+pub struct Undoing {
+    pub attempt: Settled,
+    pub log: Stamp,
+    pub rival: u64,
+    pub stored: usize,
+    pub removed: usize,
+}
+
+/// What an attempt that met a version outside its snapshot stores.
+#[derive(Drop)]
+pub enum RemovesAt {
+    /// The next own record, without its version.
+    Record(Removing),
+    /// That it is undone.
+    Undone(Undoing),
+}
+
+/// An attempt that removes its versions and then is undone: in contracts a `Removing`.
+#[derive(Drop)]
+pub struct Removes {
+    pub at: RemovesAt,
+}
+
+impl Model for Removes {
+    ghost use Rattle.tl_txn.specs.Course.{IsRemoving, removing_at};
+    ghost use Rattle.tl_txn.specs.declared.phase.Removing.{Removing as TheRemoving};
+
+    ghost Value = { TheRemoving };
+
+    ghost view = { λ r. removing_at r.at };
+
+    ghost invariant = { λ r. IsRemoving r.at };
+}
+
+impl Removes {
+    /// The transaction whose version it met.
+    pub fn rival(&self) -> u64
+        ensures { result ≡ self.now.rival }
+    {
+        match &self.at {
+            RemovesAt::Record(removing) => removing.rival,
+            RemovesAt::Undone(undoing) => undoing.rival,
+        }
+    }
 }
 
 /// How far a transaction is: what the reply that it awaits will be taken for.
@@ -85,8 +170,8 @@ pub enum Phase {
     TryingNothing(Open),
     /// Its log cell is stored.
     Trying(Attempt),
-    Storing(Storing),
-    Removing(Removing),
+    Storing(Stores),
+    Removing(Removes),
     /// It gives up before it has stored anything.
     GivingUp(Open),
     /// It is put among the finished ones, whose cell is loaded or not.

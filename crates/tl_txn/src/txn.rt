@@ -257,7 +257,7 @@ impl Txn {
         ensures { result ≡ conflict_in self.now.phase }
     {
         match &self.phase {
-            Phase::Removing(removing) => Some(removing.rival),
+            Phase::Removing(removes) => Some(removes.rival()),
             Phase::Closing { decision, .. } | Phase::Ending { decision, .. } => rival_of(*decision),
             _ => None,
         }
@@ -379,8 +379,8 @@ fn hear(
         Phase::Reading(live, read) => hear_reading(alloc, catalog, layout, live, read, reply),
         Phase::TryingNothing(live) => hear_trying_nothing(alloc, layout, live, reply),
         Phase::Trying(attempt) => hear_trying(alloc, layout, attempt, reply),
-        Phase::Storing(storing) => hear_storing(alloc, catalog, layout, storing, reply),
-        Phase::Removing(removing) => hear_removing(alloc, catalog, layout, removing, reply),
+        Phase::Storing(stores) => hear_storing(alloc, catalog, layout, stores, reply),
+        Phase::Removing(removes) => hear_removing(alloc, catalog, layout, removes, reply),
         Phase::GivingUp(live) => hear_giving_up(alloc, layout, live, reply),
         Phase::Closing {
             tid,

@@ -9,17 +9,19 @@ ghost use Rattle.tl_journal.specs.Ask.{StoreRecord};
 ghost use Rattle.tl_versions.specs.Versions.{strip};
 ghost use Rattle.tl_write.specs.declared.write.Write.{Write as TheWrite};
 ghost use Rattle.tl_txn.specs.After.{IsTaken};
+ghost use Rattle.tl_txn.specs.Course as course;
+ghost use Rattle.tl_txn.specs.declared.phase.Phase.TheVariants as phase;
 ghost use Rattle.tl_txn.specs.Hears.{hears_own};
 ghost use Rattle.tl_txn.specs.Taken as taken;
-ghost use Rattle.tl_txn.specs.Taken.{ask_removal, removal_at, takes_removing};
+ghost use Rattle.tl_txn.specs.Taken.{removal_at, takes_removing};
 
 use crate::after::After;
+use crate::attempt::load_own;
 use crate::finish::load_again;
-use crate::phase::{Decision, Phase, Removing, Storing};
+use crate::phase::{Decision, Phase, Removes, RemovesAt, Removing, Storing, Undoing};
 use std::alloc::Global;
 use tl_ask::{
-    Asked, Layout, RecordCell, StoreOutcome, hear_record, hear_store, load_record, store_log,
-    store_record,
+    Asked, Layout, RecordCell, StoreOutcome, hear_record, hear_store, store_log, store_record,
 };
 use tl_base::{Duplicate, NoMemory, Tid};
 use tl_manager::{Mark, Reply};
@@ -50,28 +52,53 @@ pub fn undo(alloc: Global, layout: Layout, storing: Storing, rival: Tid) -> Afte
 
 /// The next own record is to be loaded that has a version of it, or the log cell stored where there is none.
 fn remove_next(alloc: Global, layout: Layout, removing: Removing, mark: Mark) -> After
+    requires { removing.loaded ≡ false }
     ensures { IsTaken layout (taken.removing removing mark) result }
 {
-    let mut removing = removing;
-    let ask = ask_removal(alloc, layout, &mut removing);
-    After::going(mark, Phase::Removing(removing), ask)
+    if let Some(write) = write_in_hand(&removing) {
+        let ask = load_own(layout, write);
+        return After::going(mark, record_in_hand(removing), ask);
+    }
+    store_undone(alloc, layout, removing, mark)
 }
 
-fn ask_removal(alloc: Global, layout: Layout, removing: &mut Removing) -> Result<Asked, NoMemory>
-    ensures same { removing.new ≡ removing.old }
-    ensures ask { IfOk result (λ ask. ask ≡ asked layout (ask_removal removing.old (removal_at removing.old))) }
+/// It awaits what comes of the own record in hand.
+fn record_in_hand(removing: Removing) -> Phase
+    requires { IsSome (removal_at removing) }
+    ensures { result ≡ phase.Removing removing }
 {
-    if let Some(write) = write_in_hand(removing) {
-        return Ok(load_record(layout, write.key.copy()?));
-    }
-    let value = removing.attempt.take_undone()?;
-    store_log(
-        alloc,
-        layout,
-        removing.log,
-        removing.attempt.tid().get(),
-        value,
-    )
+    Phase::Removing(Removes {
+        at: RemovesAt::Record(removing),
+    })
+}
+
+/// No own record bears its version: its log cell is to say so.
+fn store_undone(alloc: Global, layout: Layout, removing: Removing, mark: Mark) -> After
+    requires waits { removing.loaded ≡ false }
+    requires none { removal_at removing ≡ None }
+    ensures { IsTaken layout (taken.removing removing mark) result }
+{
+    let Removing {
+        attempt,
+        log,
+        rival,
+        stored,
+        removed,
+        loaded: _,
+    } = removing;
+    let tid = attempt.tid().get();
+    let (attempt, value) = attempt.undo();
+    let ask = store_log(alloc, layout, log, tid, value);
+    let phase = Phase::Removing(Removes {
+        at: RemovesAt::Undone(Undoing {
+            attempt,
+            log,
+            rival,
+            stored,
+            removed,
+        }),
+    });
+    After::going(mark, phase, ask)
 }
 
 /// The own record from which its version is to be removed next.
@@ -88,16 +115,33 @@ pub fn hear_removing(
     alloc: Global,
     catalog: &Catalog,
     layout: Layout,
+    removes: Removes,
+    reply: &Reply,
+) -> After
+    ensures { IsTaken layout (takes_removing removes removes.loaded (removal_at removes) (hears_own catalog.now removes.loaded (removal_at removes) reply.now)) result }
+{
+    match removes.at {
+        RemovesAt::Record(removing) => hear_record_removed(alloc, catalog, layout, removing, reply),
+        RemovesAt::Undone(undoing) => take_undone(alloc, layout, undoing, hear_store(reply)),
+    }
+}
+
+/// The own record in hand is loaded, or stored.
+fn hear_record_removed(
+    alloc: Global,
+    catalog: &Catalog,
+    layout: Layout,
     removing: Removing,
     reply: &Reply,
 ) -> After
+    requires { IsSome (removal_at removing) }
     ensures { IsTaken layout (takes_removing removing removing.loaded (removal_at removing) (hears_own catalog.now removing.loaded (removal_at removing) reply.now)) result }
 {
     if removing.loaded {
         return take_removed(alloc, layout, removing, hear_store(reply));
     }
     let Some(own) = write_in_hand(&removing) else {
-        return take_undone(alloc, layout, removing, hear_store(reply));
+        unreachable!()
     };
     match hear_record(alloc, catalog, &own.key, reply) {
         Ok(cell) => take_loaded(layout, removing, cell),
@@ -109,15 +153,15 @@ pub fn hear_removing(
 fn take_undone(
     alloc: Global,
     layout: Layout,
-    removing: Removing,
+    undoing: Undoing,
     outcome: Option<StoreOutcome>,
 ) -> After
-    ensures { IsTaken layout (takes_removing removing false None (store_or_strange outcome)) result }
+    ensures { IsTaken layout (takes_removing (course.undoing undoing) false None (store_or_strange outcome)) result }
 {
     match outcome {
         Some(StoreOutcome::Stored(_)) => {
-            let decision = Decision::Undo(Some(removing.rival));
-            load_again(alloc, layout, removing.attempt.tid(), decision, Mark::Quiet)
+            let decision = Decision::Undo(Some(undoing.rival));
+            load_again(alloc, layout, undoing.attempt.tid(), decision, Mark::Quiet)
         }
         Some(StoreOutcome::Moved) | None => After::strange(),
     }
@@ -130,11 +174,9 @@ fn take_removed(
     removing: Removing,
     outcome: Option<StoreOutcome>,
 ) -> After
+    requires { IsSome (removal_at removing) }
     ensures { IsTaken layout (takes_removing removing true (removal_at removing) (store_or_strange outcome)) result }
 {
-    if write_in_hand(&removing).is_none() {
-        return After::strange();
-    }
     let mut removing = removing;
     removing.loaded = false;
     match outcome {
@@ -158,7 +200,7 @@ fn take_loaded(layout: Layout, removing: Removing, cell: Option<RecordCell>) -> 
     let ask = ask_strip(layout, &removing, cell);
     let mut removing = removing;
     removing.loaded = true;
-    After::going(Mark::Quiet, Phase::Removing(removing), ask)
+    After::going(Mark::Quiet, record_in_hand(removing), ask)
 }
 
 fn ask_strip(layout: Layout, removing: &Removing, cell: RecordCell) -> Result<Asked, NoMemory>

@@ -1,15 +1,15 @@
-use Rattle.std.proofs.Common.{subst}
-use Rattle.std.specs.Prelude.{slice_get}
-use Rattle.tl_journal.specs.Ask.{Ask}
-use Rattle.tl_txn.specs.After.{IsTaken}
-use Rattle.tl_txn.specs.Taken.{ask_store, going}
-use Rattle.tl_txn.specs.declared.phase.Phase.TheVariants as phase
-use Rattle.tl_txn.specs.declared.phase.Storing.{Storing}
+use Rattle.std.proofs.Common.{sym}
+use Rattle.tl_journal.specs.Ask.{Ask, LoadRecord}
+use Rattle.tl_txn.proofs.Cases.{loads_next}
+use Rattle.tl_txn.proofs.Hearing.{taken_so}
+use Rattle.tl_txn.specs.Taken.{going, storing}
 use Rattle.tl_txn.proofs.commit.store_next.Goals as goal
 
-pub returns : goal.returns
-returns c =
+pub returns-in-Some : goal.returns-in-Some
+returns-in-Some c =
     let s = c.args.storing in
-    let wanted : Ask = ask_store s (slice_get s.attempt.own s.stored) in
-    subst (λ (x : Storing). IsTaken c.args.layout (going (phase.Storing x) wanted c.args.mark) c.going.result) c.ask_store-ask.ensures.same
-    (c.going.ensures c.args.layout wanted c.ask_store-ask.ensures.ask)
+    let own = c.in-Some.write.now in
+    let p = c.record_in_hand.result in
+    let wanted : Ask = LoadRecord own.key in
+    taken_so c.args.layout (storing s c.args.mark) (going p wanted c.args.mark) c.going.result
+    (loads_next s p own c.args.mark c.record_in_hand.ensures (sym c.in-Some.ensures.value)) (c.going.ensures c.args.layout wanted c.load_own-ask.ensures)

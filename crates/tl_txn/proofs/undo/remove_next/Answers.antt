@@ -1,14 +1,15 @@
-use Rattle.std.proofs.Common.{subst}
-use Rattle.tl_journal.specs.Ask.{Ask}
-use Rattle.tl_txn.specs.After.{IsTaken}
-use Rattle.tl_txn.specs.Taken.{ask_removal, going, removal_at}
-use Rattle.tl_txn.specs.declared.phase.Phase.TheVariants as phase
-use Rattle.tl_txn.specs.declared.phase.Removing.{Removing}
+use Rattle.std.proofs.Common.{sym}
+use Rattle.tl_journal.specs.Ask.{Ask, LoadRecord}
+use Rattle.tl_txn.proofs.Cases.{loads_removal}
+use Rattle.tl_txn.proofs.Hearing.{taken_so}
+use Rattle.tl_txn.specs.Taken.{going, removing}
 use Rattle.tl_txn.proofs.undo.remove_next.Goals as goal
 
-pub returns : goal.returns
-returns c =
+pub returns-in-Some : goal.returns-in-Some
+returns-in-Some c =
     let r = c.args.removing in
-    let wanted : Ask = ask_removal r (removal_at r) in
-    subst (λ (x : Removing). IsTaken c.args.layout (going (phase.Removing x) wanted c.args.mark) c.going.result) c.ask_removal-ask.ensures.same
-    (c.going.ensures c.args.layout wanted c.ask_removal-ask.ensures.ask)
+    let own = c.in-Some.write.now in
+    let p = c.record_in_hand.result in
+    let wanted : Ask = LoadRecord own.key in
+    taken_so c.args.layout (removing r c.args.mark) (going p wanted c.args.mark) c.going.result
+    (loads_removal r p own c.args.mark c.record_in_hand.ensures (sym c.in-Some.ensures)) (c.going.ensures c.args.layout wanted c.load_own-ask.ensures)
