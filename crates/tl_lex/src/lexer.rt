@@ -1,8 +1,8 @@
 //! The tokens of a text.
 
-ghost use Rattle.std.specs.Prelude.{◌≡◌, ◌<◌, ◌≤◌, ◌^◌, drop, length, All, IfOk, IfErr, IfSome};
+ghost use Rattle.std.specs.Prelude.{◌≡◌, ◌<◌, ◌≤◌, ◌^◌, [], drop, length, All, IfOk, IfErr, IfSome};
 ghost use Rattle.tl_lex.specs.Lexed.{Gives, lexed, next_token, past_blanks};
-ghost use Rattle.tl_lex.specs.Spans.{InOrder, IsCut, IsWithin};
+ghost use Rattle.tl_lex.specs.Spans.{AreSigned, InOrder, IsCut, IsPlaced};
 
 use crate::before::{Before, after};
 use crate::fault::{LexError, LexFault};
@@ -15,9 +15,10 @@ use tl_base::Items;
 pub fn lex(alloc: Global, text: &str) -> Result<Tokens, LexError>
     requires { length text.now < 2 ^ 31 }
     ensures exact { Gives result (lexed text.now) }
-    ensures in_order { IfOk result (λ tokens. InOrder 0 tokens (length text.now)) }
+    ensures in_order { IfOk result (λ tokens. InOrder text.now 0 tokens) }
     ensures cut { IfOk result (λ tokens. All (IsCut text.now) tokens) }
-    ensures place { IfErr result (λ error. IsWithin error (length text.now)) }
+    ensures signed { IfOk result (λ tokens. AreSigned text.now [] tokens) }
+    ensures place { IfErr result (λ error. IsPlaced text.now error) }
 {
     tokens_of(alloc, text.as_bytes())
 }

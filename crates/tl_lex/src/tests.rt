@@ -1,11 +1,11 @@
-//! Texts, and what a reference in another language finds in them.
+//! Texts, with what was found in them apart from this code.
 
 use crate::LexKind::{BadCharacter, LongName, Unclosed, Wide};
 use crate::{LexError, LexFault, LexKind, Token, TokenKind, lex};
 use std::test::Fail;
 
 /// Below each byte of a text the letter of its token's kind, a capital where the token begins.
-static TOKENS: [(&str, &[u8]); 9] = [
+static TOKENS: [(&str, &[u8]); 13] = [
     ("SELECT * FROM nosuch", b"Nnnnnn S Nnnn Nnnnnn"),
     ("it''s 'it''s' ''''", b"NnTtN Ttttttt Tttt"),
     ("12ab", b"DdNn"),
@@ -15,9 +15,16 @@ static TOKENS: [(&str, &[u8]); 9] = [
     ("limit -9223372036854775808", b"Nnnnn SDdddddddddddddddddd"),
     ("1--9223372036854775808", b"DSSDdddddddddddddddddd"),
     ("'é€',", b"TttttttS"),
+    (
+        "a234567890123456789012345678901",
+        b"Nnnnnnnnnnnnnnnnnnnnnnnnnnnnnnn",
+    ),
+    ("9223372036854775807", b"Ddddddddddddddddddd"),
+    ("", b""),
+    (" \t ", b"   "),
 ];
 
-static FAULTS: [(&str, u32, LexKind); 9] = [
+static FAULTS: [(&str, u32, LexKind); 12] = [
     ("INSERT INTO account VALUES ('ab", 28, Unclosed),
     ("é", 0, BadCharacter),
     ("x\n", 1, BadCharacter),
@@ -27,6 +34,9 @@ static FAULTS: [(&str, u32, LexKind); 9] = [
     ("a.b - 9223372036854775808", 6, Wide),
     ("a234567890123456789012345678901b", 0, LongName),
     ("12 @ 'ab", 3, BadCharacter),
+    ("x !", 2, BadCharacter),
+    ("a\r", 1, BadCharacter),
+    ("'ab''", 0, Unclosed),
 ];
 
 fn is_drawn(token: &Token, drawing: &[u8]) -> bool {
