@@ -1,0 +1,5 @@
+pub mod Form
+pub mod Grammar
+pub mod Pick
+pub mod Spelling
+pub mod Token
