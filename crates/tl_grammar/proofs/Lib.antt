@@ -1,1 +1,12 @@
+pub mod Alive
+pub mod Choose
+pub mod Combine
+pub mod Deeper
+pub mod Exact
 pub mod Examples
+pub mod Forms
+pub mod Leaves
+pub mod Placed
+pub mod RowLaw
+pub mod Rows
+pub mod Sets
