@@ -122,6 +122,12 @@ pub or : {X : Type 0} {k : Bool} {a c b d : Form X} {fa ma fb mb : List ℕ}
 or {X} {k} {a} {c} {b} {d} p q h =
     record { inner = or_inner p.inner q.inner h; low_sample = either_sample a b p.low_sample; high_sample = either_sample c d p.high_sample }
 
+-- there may be none of the second
+pub or_first : {X : Type 0} {k : Bool} {a c b d : Form X} {fa ma fb mb : List ℕ}
+    → Begun k a c fa ma → Inner k b d fb mb → apart fa fb ≡ true → Begun k (either a b) (either c d) (fa ++ fb) (chosen false fa ma mb)
+or_first {X} {k} {a} {c} {b} {d} p q h =
+    record { inner = or_inner p.inner q h; low_sample = either_sample a b p.low_sample; high_sample = either_sample c d p.high_sample }
+
 -- there may be none of the first
 pub or_sure : {X : Type 0} {k : Bool} {a c b d : Form X} {fa ma fb mb : List ℕ}
     → Inner k a c fa ma → Begun k b d fb mb → apart fa fb ≡ true → Begun k (either a b) (either c d) (fa ++ fb) (chosen false fa ma mb)
@@ -236,10 +242,8 @@ near_more p h =
 pub wider : {X : Type 0} {k : Bool} {F G : Form X} {first more wide : List ℕ} {null : Bool} → Law k F G first more null → within more wide ≡ true → Law k F G first wide null
 wider p h = record { near = near_more p.near h; low_sample = p.low_sample; high_sample = p.high_sample }
 
+pub inner_wider : {X : Type 0} {k : Bool} {F G : Form X} {first more wide : List ℕ} → Inner k F G first more → within more wide ≡ true → Inner k F G first wide
+inner_wider p h = record { low_opens = p.low_opens; high_opens = p.high_opens; near = near_more p.near h }
+
 pub begun_wider : {X : Type 0} {k : Bool} {F G : Form X} {first more wide : List ℕ} → Begun k F G first more → within more wide ≡ true → Begun k F G first wide
-begun_wider p h =
-    record {
-      inner = record { low_opens = p.inner.low_opens; high_opens = p.inner.high_opens; near = near_more p.inner.near h };
-      low_sample = p.low_sample;
-      high_sample = p.high_sample;
-    }
+begun_wider p h = record { inner = inner_wider p.inner h; low_sample = p.low_sample; high_sample = p.high_sample }

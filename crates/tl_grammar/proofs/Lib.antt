@@ -9,4 +9,5 @@ pub mod Leaves
 pub mod Placed
 pub mod RowLaw
 pub mod Rows
+pub mod Rules
 pub mod Sets

@@ -76,3 +76,7 @@ pub within_mem : (xs ys : List ℕ) (c : ℕ) → within xs ys ≡ true → mem 
 within_mem [] ys c h k = absurd (cc)
 within_mem (x ∷ xs) ys c h k =
     within_step (x == c) c x (mem c xs) (mem x ys) (within xs ys) (mem c ys) refl h k (λ e. ap (λ (n : ℕ). mem n ys) (sym e)) (λ p q. within_mem xs ys c p q)
+
+pub apart_none : (xs : List ℕ) → apart xs [] ≡ true
+apart_none [] = refl
+apart_none (x ∷ xs) = apart_none xs
