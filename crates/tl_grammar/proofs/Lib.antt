@@ -2,6 +2,7 @@ pub mod Alive
 pub mod Choose
 pub mod Combine
 pub mod Deeper
+pub mod Depth
 pub mod Exact
 pub mod Examples
 pub mod Forms
@@ -11,3 +12,4 @@ pub mod RowLaw
 pub mod Rows
 pub mod Rules
 pub mod Sets
+pub mod Theorem

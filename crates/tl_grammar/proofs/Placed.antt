@@ -47,9 +47,8 @@ placed_ok {X} a oka at next x h =
     let r = bind_ok (a.read at) (at_place at) (x, next) h in
     let p = oka at r.0.1 r.0.0 r.1 in
     subst (λ (q : (ℕ × X) × Cursor).
-        (u : List Token) × (at.rest ≡ u ++ q.1.rest) × ((v : List Token) → SameHead q.1.rest v → (placed a).read (put at (u ++ v)) ≡ Ok (q.0, put q.1 v)))
-    (same_ok {A = (ℕ × X) × Cursor} _ (x, next) r.2)
-    (
+    (u : List Token) × (at.rest ≡ u ++ q.1.rest) × ((v : List Token) → SameHead q.1.rest v → (placed a).read (put at (u ++ v)) ≡ Ok (q.0, put q.1 v)))
+    (same_ok {A = (ℕ × X) × Cursor} _ (x, next) r.2) (
       p.0,
       p.1,
       λ v s. ap (λ (z : Result (X × Cursor) Fault). z >>=ᵣ at_place (put at (p.0 ++ v))) (p.2 v s)

@@ -467,7 +467,7 @@ unfolding limit
 limit_law = begun (word_law w.Limit) (λ at. last number_law) refl
 
 -- all tokens that may go on with a statement
-abbrev statement_more : List ℕ
+abbrev pub statement_more : List ℕ
 statement_more =
     of_word w.Where ∷ of_word w.Group ∷ of_word w.Order ∷ of_word w.Limit ∷ (joins ++ (from_more ++ (cond_more ++ (expr_more ++ directions))))
 
@@ -495,7 +495,7 @@ recover_law : {k : Bool} → Begun k recover recover (of_word w.Recover ∷ []) 
 unfolding recover
 recover_law = begun (word_law w.Recover) (λ at. next node_law (λ node. done (statement.Recover node)) refl) refl
 
-abbrev statements : List ℕ
+abbrev pub statements : List ℕ
 statements =
     of_word w.Create ∷ of_word w.Insert ∷ of_word w.Update ∷ of_word w.Delete ∷ of_word w.Select ∷ of_word w.Begin ∷ of_word w.Commit ∷ of_word w.Rollback ∷ of_word w.Recover ∷ []
 

@@ -1,10 +1,11 @@
--- Where a list of tokens stops being the beginning of a statement.
-use Rattle.std.specs.Prelude.{◌≡◌, ℕ, suc, List, [], ◌∷◌, ◌++◌, length}
+-- What `parsed` is against the grammar, and where tokens stop being the beginning of a statement.
+use Rattle.std.specs.Prelude.{◌≡◌, ℕ, suc, List, [], ◌∷◌, ◌++◌, length, Ok, Err}
+use Rattle.tl_grammar.specs.declared.fault.Expected.{Expected}
 use Rattle.tl_grammar.specs.declared.fault.Fault.{Fault}
 use Rattle.tl_grammar.specs.declared.fault.Fault.TheVariants as fault
-use Rattle.tl_grammar.specs.Token.{Token}
 use Rattle.tl_grammar.specs.declared.statement.Statement.{Statement}
-use Rattle.tl_grammar.specs.Grammar.{IsStatement}
+use Rattle.tl_grammar.specs.Token.{Token}
+use Rattle.tl_grammar.specs.Grammar.{IsStatement, fault_place, most_open, parsed, place_or_end}
 
 -- these tokens begin a statement in which so many brackets and NOT are open at once, and no more
 abbrev pub Begins : ℕ → List Token → Type 0
@@ -36,3 +37,31 @@ DeepAt d ts left =
 abbrev pub left_of : Fault → ℕ
 left_of (fault.Parse left e) = left
 left_of (fault.Deep left) = left
+
+-- what is parsed is a statement of the grammar
+abbrev pub Found : Type 0
+Found = (ts : List Token) (x : Statement) → parsed ts ≡ Ok x → IsStatement most_open ts x
+
+-- each statement of the grammar is parsed
+abbrev pub Complete : Type 0
+Complete = (ts : List Token) (x : Statement) → IsStatement most_open ts x → parsed ts ≡ Ok x
+
+-- tokens are one statement, however deep it nests
+abbrev pub OneReading : Type 0
+OneReading = (d : ℕ) (ts : List Token) (x y : Statement) → IsStatement d ts x → IsStatement d ts y → x ≡ y
+
+-- a fault stands at the first place where no statement goes on that nests as deep as it may
+abbrev pub FaultStops : Type 0
+FaultStops = (ts : List Token) (f : Fault) → parsed ts ≡ Err f → StopsAt most_open ts (left_of f)
+
+-- at a parse fault none goes on, however deep it nests
+abbrev pub ParseFaultStops : Type 0
+ParseFaultStops = (ts : List Token) (left : ℕ) (e : Expected) → parsed ts ≡ Err (fault.Parse left e) → NowhereAt ts left
+
+-- where it nests too deep, one that nests deeper by one goes on
+abbrev pub DeepGoesOn : Type 0
+DeepGoesOn = (ts : List Token) (left : ℕ) → parsed ts ≡ Err (fault.Deep left) → DeepAt most_open ts left
+
+-- a fault's place in the text is that of the first token from there on, or the text's end
+abbrev pub FaultPlace : Type 0
+FaultPlace = (end : ℕ) (before rest : List Token) → fault_place end (before ++ rest) (length rest) ≡ place_or_end end rest

@@ -5,6 +5,7 @@
 mod condition;
 mod expression;
 mod fault;
+mod law;
 mod name;
 mod operand;
 mod select;
@@ -14,6 +15,7 @@ mod token;
 pub use condition::Cond;
 pub use expression::{Expr, Operator, Step};
 pub use fault::{Expected, Fault, ParseFault};
+pub use law::parsed_exactly;
 pub use name::{ColumnName, Name};
 pub use operand::{Literal, Operand};
 pub use select::{FromItem, OrderBy, OrderItem, SelectForm, SelectItem};
