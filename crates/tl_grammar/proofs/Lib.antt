@@ -13,3 +13,4 @@ pub mod Rows
 pub mod Rules
 pub mod Sets
 pub mod Theorem
+pub mod Written

@@ -1,11 +1,14 @@
 -- What `parsed` is against the grammar, and where tokens stop being the beginning of a statement.
-use Rattle.std.specs.Prelude.{◌≡◌, ℕ, suc, List, [], ◌∷◌, ◌++◌, length, Ok, Err}
+use Rattle.std.specs.Prelude.{◌≡◌, ℕ, suc, List, [], ◌∷◌, ◌++◌, length, Option, Ok, Err, ◌↔◌}
 use Rattle.tl_grammar.specs.declared.fault.Expected.{Expected}
 use Rattle.tl_grammar.specs.declared.fault.Fault.{Fault}
 use Rattle.tl_grammar.specs.declared.fault.Fault.TheVariants as fault
 use Rattle.tl_grammar.specs.declared.statement.Statement.{Statement}
+use Rattle.tl_grammar.specs.declared.name.Name.{Name}
+use Rattle.tl_grammar.specs.declared.statement.ColumnForm.{ColumnForm}
 use Rattle.tl_grammar.specs.Token.{Token}
-use Rattle.tl_grammar.specs.Grammar.{IsStatement, fault_place, most_open, parsed, place_or_end}
+use Rattle.tl_grammar.specs.Form.{Form, ◌>>=◌, pure}
+use Rattle.tl_grammar.specs.Grammar.{IsStatement, column_form, comma, entries, fault_place, list, most_open, names, optional, parsed, place_or_end, primary_key}
 
 -- these tokens begin a statement in which so many brackets and NOT are open at once, and no more
 abbrev pub Begins : ℕ → List Token → Type 0
@@ -65,3 +68,19 @@ DeepGoesOn = (ts : List Token) (left : ℕ) → parsed ts ≡ Err (fault.Deep le
 -- a fault's place in the text is that of the first token from there on, or the text's end
 abbrev pub FaultPlace : Type 0
 FaultPlace = (end : ℕ) (before rest : List Token) → fault_place end (before ++ rest) (length rest) ≡ place_or_end end rest
+
+-- column {, column} [, PRIMARY KEY ( name {, name} )], as it is written
+unfoldable pub table_key : Form (List Name)
+table_key = do
+  at ← primary_key
+  names
+
+unfoldable pub written_entries : Form (List ColumnForm × Option (List Name))
+written_entries = do
+  columns ← list column_form
+  key ← optional (comma table_key)
+  pure (columns, key)
+
+-- what stands in the brackets of CREATE TABLE is that
+abbrev pub AsWritten : Type 0
+AsWritten = (ts : List Token) (x : List ColumnForm × Option (List Name)) (rest : List Token) → entries.is ts x rest ↔ written_entries.is ts x rest

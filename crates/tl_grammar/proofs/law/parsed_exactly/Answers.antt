@@ -1,5 +1,6 @@
 use Rattle.tl_grammar.proofs.Depth.{deep_law, nowhere_law}
 use Rattle.tl_grammar.proofs.Theorem.{fault_law, found_law, one_law, only_law, place_law}
+use Rattle.tl_grammar.proofs.Written as written
 use Rattle.tl_grammar.proofs.law.parsed_exactly.Goals as goal
 
 pub returns-clause-found : goal.returns-clause-found
@@ -22,3 +23,6 @@ returns-clause-deep c = deep_law 64
 
 pub returns-clause-place : goal.returns-clause-place
 returns-clause-place c = place_law
+
+pub returns-clause-as_written : goal.returns-clause-as_written
+returns-clause-as_written c = written.as_written
