@@ -28,7 +28,7 @@ pub fails_bind : {A B : Type 0} (r : Result A Fault) (k : A → Result B Fault) 
 fails_bind r k h = (h.0, ap (λ r. r >>=ᵣ k) h.1)
 
 -- one token
-sound_pick : {X : Type 0} (pick : Token → Option X) (p : Option X) (e : Expected) (at next : Cursor) (t : Token) (ts : List Token) (x : X)
+pub sound_pick : {X : Type 0} (pick : Token → Option X) (p : Option X) (e : Expected) (at next : Cursor) (t : Token) (ts : List Token) (x : X)
     → pick t ≡ p → picked p e at ts ≡ Ok (x, next) → (pick t ≡ Some x) × (next ≡ fresh ts)
 sound_pick pick None e at next t ts x q h = absurd (cc)
 sound_pick {X} pick (Some y) e at next t ts x q h = let z = same_ok {A = X × Cursor} (y, fresh ts) (x, next) h in (q ∙ ap (λ (r : X × Cursor). Some r.0) z, ap (λ (r : X × Cursor). r.1) (sym z))

@@ -236,10 +236,10 @@ nothing_deeper {X} e =
     }
 
 -- what was too deep
-abbrev not_deep : {X : Type 0} → Expected → Cursor → Bool → Result (X × Cursor) Fault
+abbrev pub not_deep : {X : Type 0} → Expected → Cursor → Bool → Result (X × Cursor) Fault
 not_deep e at b = cond b (Err (fault.Deep (length at.rest))) (refused e at)
 
-not_ok : {X : Type 0} (e : Expected) (at : Cursor) (b : Bool) (r : X × Cursor) → not_deep {X = X} e at b ≡ Ok r → ⊥
+pub not_ok : {X : Type 0} (e : Expected) (at : Cursor) (b : Bool) (r : X × Cursor) → not_deep {X = X} e at b ≡ Ok r → ⊥
 not_ok e at true r h = cc
 not_ok e at false r h = cc
 

@@ -12,10 +12,11 @@ use Rattle.tl_grammar.specs.Law.{DeepAt, GoesNowhere, NowhereAt, StopsAt}
 use Rattle.tl_grammar.proofs.Combine.{bind_err, same_fault}
 use Rattle.tl_grammar.proofs.Deeper.{Deeper}
 use Rattle.tl_grammar.proofs.Rules.{sentence_law}
-use Rattle.tl_grammar.proofs.Theorem.{fault_law, same_split}
+use Rattle.tl_grammar.proofs.Sets.{same_split}
+use Rattle.tl_grammar.proofs.Theorem.{fault_law}
 
 deeper : (d : ℕ) → Deeper (sentence d) (sentence (suc d))
-deeper d = (sentence_law {k = true} d).inner.near.deeper refl
+deeper d = (sentence_law d).inner.near.deeper refl
 
 never_deep : (x : Statement) (at : Cursor) (ts : List Token) (l : ℕ) → ended x at ts ≡ Err (fault.Deep l) → ⊥
 never_deep x at [] l h = cc

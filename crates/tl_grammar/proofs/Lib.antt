@@ -11,6 +11,7 @@ pub mod Placed
 pub mod RowLaw
 pub mod Rows
 pub mod Rules
+pub mod Seeks
 pub mod Sets
 pub mod Theorem
 pub mod Written

@@ -13,7 +13,7 @@ use Rattle.tl_grammar.proofs.Alive.{Alive, Front, Going, Sample}
 use Rattle.tl_grammar.proofs.Deeper.{DeepGoing, Deeper}
 
 -- what is read of the form, and its place
-abbrev at_place : {X : Type 0} → Cursor → X × Cursor → Result ((ℕ × X) × Cursor) Fault
+abbrev pub at_place : {X : Type 0} → Cursor → X × Cursor → Result ((ℕ × X) × Cursor) Fault
 at_place at r = Ok ((place_of at.rest, r.0), r.1)
 
 same_place : (ts vs : List Token) → SameHead ts vs → place_of vs ≡ place_of ts
@@ -33,7 +33,7 @@ longer_place [] [] tail h = absurd (omega arith)
 longer_place [] (t ∷ s) tail h = refl
 longer_place (t ∷ u) s tail h = refl
 
-token_place : (u : List Token) (t : Token) (a b : List Token) → place_of (u ++ (t ∷ a)) ≡ place_of (u ++ (t ∷ b))
+pub token_place : (u : List Token) (t : Token) (a b : List Token) → place_of (u ++ (t ∷ a)) ≡ place_of (u ++ (t ∷ b))
 token_place [] t a b = refl
 token_place (s ∷ u) t a b = refl
 

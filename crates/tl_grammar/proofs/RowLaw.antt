@@ -38,7 +38,7 @@ shrinks_row step F first mf ef acc x ts rest (y ∷ ys) h =
     let p = (ef acc).shrinks ts h.0 y h.1 in let q = shrinks_row step F first mf ef (step acc y) x h.0 rest ys h.2 in omega arith
 
 -- where it doesn't go on
-ends_ok : {X Y : Type 0} (step : X → Y → X) (F : X → Form Y) (n : ℕ) (acc x : X) (at next : Cursor) → starts (F acc).begins at.rest ≡ false → read_row step F n acc at ≡ Ok (x, next)
+pub ends_ok : {X Y : Type 0} (step : X → Y → X) (F : X → Form Y) (n : ℕ) (acc x : X) (at next : Cursor) → starts (F acc).begins at.rest ≡ false → read_row step F n acc at ≡ Ok (x, next)
     → (acc ≡ x) × (missing (F acc).wants at ≡ next)
 ends_ok {X} step F n acc x at next e h =
     let z = same_ok {A = X × Cursor} (acc, missing (F acc).wants at) (x, next) (sym (row_stops step F n acc at e) ∙ h) in

@@ -1,5 +1,5 @@
 -- Sets of tokens, and lists that begin alike.
-use Rattle.std.proofs.Common.{◌≡◌, ℕ, ◌==◌, Bool, true, false, not, ◌||◌, ◌&&◌, List, [], ◌∷◌, ◌++◌, refl, sym, ap}
+use Rattle.std.proofs.Common.{◌≡◌, ℕ, ◌==◌, Bool, true, false, not, ◌||◌, ◌&&◌, List, [], ◌∷◌, ◌++◌, length, length-append, refl, sym, ap, arith}
 use Rattle.std.proofs.lemmas.Bool.{eqb-true}
 use Rattle.tl_grammar.specs.Token.{Token}
 use Rattle.tl_grammar.specs.Form.{starts}
@@ -80,3 +80,13 @@ within_mem (x ∷ xs) ys c h k =
 pub apart_none : (xs : List ℕ) → apart xs [] ≡ true
 apart_none [] = refl
 apart_none (x ∷ xs) = apart_none xs
+
+-- two splits of one list whose backs are as long are one
+pub same_split : (a c b d : List Token) → a ++ b ≡ c ++ d → length b ≡ length d → a ≡ c
+same_split [] [] b d e l = refl
+same_split [] (t ∷ c) b d e l = absurd (let z = ap (λ (l : List Token). length l) e in omega (arith, length-append c d))
+same_split (t ∷ a) [] b d e l = absurd (let z = ap (λ (l : List Token). length l) e in omega (arith, length-append a b))
+same_split (t ∷ a) (s ∷ c) b d e l = let z = same_split a c b d (cc) l in cc
+
+pub same_front : (a c b : List Token) → a ++ b ≡ c ++ b → a ≡ c
+same_front a c b e = same_split a c b b e refl

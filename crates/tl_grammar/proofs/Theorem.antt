@@ -10,16 +10,17 @@ use Rattle.tl_grammar.specs.Grammar.{IsStatement, ended, fault_place, parsed_wit
 use Rattle.tl_grammar.specs.declared.token.Sign.TheVariants as s
 use Rattle.tl_grammar.specs.Classes.{of_sign}
 use Rattle.tl_grammar.specs.Law.{Begins, GoesNowhere, StopsAt, left_of}
+use Rattle.tl_grammar.proofs.Sets.{same_front, same_split}
 use Rattle.tl_grammar.proofs.Exact.{Exact, Fails, SameHead, put}
 use Rattle.tl_grammar.proofs.Alive.{Alive, Going, Sample}
 use Rattle.tl_grammar.proofs.Combine.{bind_err, bind_ok, same_fault, same_ok}
 use Rattle.tl_grammar.proofs.Rules.{sentence_law, statement_more, statements}
 
 sentence_exact : (d : ℕ) → Exact (sentence d) statements (of_sign s.Semicolon ∷ statement_more) false
-sentence_exact d = (sentence_law {k = false} d).inner.near.low
+sentence_exact d = (sentence_law d).inner.near.low
 
 sentence_lives : (d : ℕ) → Alive (sentence d) × Sample (sentence d)
-sentence_lives d = ((sentence_law {k = false} d).inner.near.low_lives, (sentence_law {k = false} d).low_sample)
+sentence_lives d = ((sentence_law d).inner.near.low_lives, (sentence_law d).low_sample)
 
 ended_ok : (x y : Statement) (at : Cursor) (ts : List Token) → ended x at ts ≡ Ok y → (x ≡ y) × (ts ≡ [])
 ended_ok x y at [] h = (same_ok x y h, refl)
@@ -44,16 +45,6 @@ two_answers r f x h k = let z = sym h ∙ k in cc
 
 not_nil : (t : Token) (ts : List Token) → t ∷ ts ≡ [] → ⊥
 not_nil t ts h = cc
-
--- two splits of one list whose backs are as long are one
-pub same_split : (a c b d : List Token) → a ++ b ≡ c ++ d → length b ≡ length d → a ≡ c
-same_split [] [] b d e l = refl
-same_split [] (t ∷ c) b d e l = absurd (let z = ap (λ (l : List Token). length l) e in omega (arith, length-append c d))
-same_split (t ∷ a) [] b d e l = absurd (let z = ap (λ (l : List Token). length l) e in omega (arith, length-append a b))
-same_split (t ∷ a) (s ∷ c) b d e l = let z = same_split a c b d (cc) l in cc
-
-same_front : (a c b : List Token) → a ++ b ≡ c ++ b → a ≡ c
-same_front a c b e = same_split a c b b e refl
 
 -- what fails with the next token begins no statement
 no_way : (d : ℕ) (before rest : List Token) → ((w : List Token) → SameHead rest w → Fails ((sentence d).read (fresh (before ++ w)))) → GoesNowhere d before rest

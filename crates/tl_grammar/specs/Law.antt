@@ -1,12 +1,14 @@
 -- What `parsed` is against the grammar, and where tokens stop being the beginning of a statement.
-use Rattle.std.specs.Prelude.{◌≡◌, ℕ, suc, List, [], ◌∷◌, ◌++◌, length, Option, Ok, Err, ◌↔◌}
+use Rattle.std.specs.Prelude.{◌≡◌, ℕ, suc, List, [], ◌∷◌, ◌++◌, length, Option, Some, None, Ok, Err, ◌↔◌}
 use Rattle.tl_grammar.specs.declared.fault.Expected.{Expected}
+use Rattle.tl_grammar.specs.declared.fault.Expected.TheVariants as want
 use Rattle.tl_grammar.specs.declared.fault.Fault.{Fault}
 use Rattle.tl_grammar.specs.declared.fault.Fault.TheVariants as fault
 use Rattle.tl_grammar.specs.declared.statement.Statement.{Statement}
 use Rattle.tl_grammar.specs.declared.name.Name.{Name}
 use Rattle.tl_grammar.specs.declared.statement.ColumnForm.{ColumnForm}
-use Rattle.tl_grammar.specs.Token.{Token}
+use Rattle.tl_grammar.specs.Token.{Kind, Token}
+use Rattle.tl_grammar.specs.Token as kind
 use Rattle.tl_grammar.specs.Form.{Form, ◌>>=◌, pure}
 use Rattle.tl_grammar.specs.Grammar.{IsStatement, column_form, comma, entries, fault_place, list, most_open, names, optional, parsed, place_or_end, primary_key}
 
@@ -68,6 +70,25 @@ DeepGoesOn = (ts : List Token) (left : ℕ) → parsed ts ≡ Err (fault.Deep le
 -- a fault's place in the text is that of the first token from there on, or the text's end
 abbrev pub FaultPlace : Type 0
 FaultPlace = (end : ℕ) (before rest : List Token) → fault_place end (before ++ rest) (length rest) ≡ place_or_end end rest
+
+-- what may be expected of a token; a text is never the first of what goes on
+abbrev pub expected_of : Kind → Option Expected
+expected_of (kind.Word x) = Some want.Word
+expected_of (kind.Name text) = Some want.Name
+expected_of (kind.Number n) = Some want.Number
+expected_of (kind.Sign x) = Some want.Sign
+expected_of (kind.Text bytes) = None
+expected_of kind.Other = None
+
+-- with such a token a statement goes on behind these, or they are one at their end
+abbrev pub GoesOnWith : ℕ → List Token → Expected → Type 0
+GoesOnWith d before want.End = (x : Statement) × IsStatement d before x
+GoesOnWith d before e = (t : Token) × (expected_of t.kind ≡ Some e) × Begins d (before ++ t ∷ [])
+
+-- what is expected goes on there, in a statement that nests deeper by one at most
+abbrev pub ExpectedGoesOn : Type 0
+ExpectedGoesOn = (ts : List Token) (left : ℕ) (e : Expected) → parsed ts ≡ Err (fault.Parse left e)
+    → (before : List Token) × (rest : List Token) × (ts ≡ before ++ rest) × (left ≡ length rest) × GoesOnWith (suc most_open) before e
 
 -- column {, column} [, PRIMARY KEY ( name {, name} )], as it is written
 unfoldable pub table_key : Form (List Name)
