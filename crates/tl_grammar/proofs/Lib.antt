@@ -6,6 +6,7 @@ pub mod Depth
 pub mod Exact
 pub mod Examples
 pub mod Forms
+pub mod GoesOn
 pub mod Leaves
 pub mod Placed
 pub mod RowLaw

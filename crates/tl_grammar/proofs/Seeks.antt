@@ -110,7 +110,7 @@ one_ok e pick at next x (t ∷ ts) h =
     let z = sound_pick pick (pick t) e at next t ts x refl h in
     (t ∷ [], ap (λ (c : Cursor). t ∷ c.rest) (sym z.1), inl (ap (λ (c : Cursor). c.wanted) z.1))
 
-refused_is : {A : Type 0} (e : Expected) (at : Cursor) (l : ℕ) (x : Expected) → refused {A = A} e at ≡ Err (fault.Parse l x) → (l ≡ length at.rest) × (x ≡ or_else at.wanted e)
+pub refused_is : {A : Type 0} (e : Expected) (at : Cursor) (l : ℕ) (x : Expected) → refused {A = A} e at ≡ Err (fault.Parse l x) → (l ≡ length at.rest) × (x ≡ or_else at.wanted e)
 refused_is {A} e at l x h =
     let z = same_fault {A = A} (fault.Parse (length at.rest) (or_else at.wanted e)) (fault.Parse l x) h in (cc, cc)
 
@@ -136,7 +136,7 @@ picked_begun : {X : Type 0} (e : Expected) (p : Option X) (at : Cursor) (ts : Li
 picked_begun e None at ts l x b h = cc
 picked_begun e (Some y) at ts l x b h = cc
 
-one_begun_err : {X : Type 0} (e : Expected) (pick : Token → Option X) (at : Cursor) (ts : List Token) (l : ℕ) (x : Expected) → starts (λ t. some (pick t)) ts ≡ true → read_one pick e at ts ≡ Err (fault.Parse l x) → ⊥
+pub one_begun_err : {X : Type 0} (e : Expected) (pick : Token → Option X) (at : Cursor) (ts : List Token) (l : ℕ) (x : Expected) → starts (λ t. some (pick t)) ts ≡ true → read_one pick e at ts ≡ Err (fault.Parse l x) → ⊥
 one_begun_err e pick at [] l x b h = cc
 one_begun_err e pick at (t ∷ ts) l x b h = picked_begun e (pick t) at ts l x b h
 
@@ -173,10 +173,10 @@ behind_none : {X : Type 0} (G : Form X) (u v : List Token) (w : Expected) → v 
 behind_none G u v w e h = subst (λ (z : List Token). On G z w) (sym (ap (λ (z : List Token). u ++ z) e ∙ append-nil u)) h
 
 -- the tokens of the first can be those of the second form
-abbrev FrontOf : {X : Type 0} → Form X → List Token → X → Type 0
+abbrev pub FrontOf : {X : Type 0} → Form X → List Token → X → Type 0
 FrontOf G u x = (tail : List Token) → G.is (u ++ tail) x tail
 
-front_of : {X : Type 0} (G : Form X) → Alive G → (ts u rest : List Token) (x : X) → ts ≡ u ++ rest → G.is ts x rest → FrontOf G u x
+pub front_of : {X : Type 0} (G : Form X) → Alive G → (ts u rest : List Token) (x : X) → ts ≡ u ++ rest → G.is ts x rest → FrontOf G u x
 front_of G l ts u rest x e h =
     let p = l.front ts rest x h in
     subst (λ (z : List Token). FrontOf G z x) (same_front p.0 u rest (sym p.1 ∙ e)) p.2

@@ -1,4 +1,5 @@
 use Rattle.tl_grammar.proofs.Depth.{deep_law, nowhere_law}
+use Rattle.tl_grammar.proofs.GoesOn.{goes_on_law}
 use Rattle.tl_grammar.proofs.Theorem.{fault_law, found_law, one_law, only_law, place_law}
 use Rattle.tl_grammar.proofs.Written as written
 use Rattle.tl_grammar.proofs.law.parsed_exactly.Goals as goal
@@ -26,3 +27,6 @@ returns-clause-place c = place_law
 
 pub returns-clause-as_written : goal.returns-clause-as_written
 returns-clause-as_written c = written.as_written
+
+pub returns-clause-expected : goal.returns-clause-expected
+returns-clause-expected c = goes_on_law 64
