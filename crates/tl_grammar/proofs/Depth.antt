@@ -13,7 +13,7 @@ use Rattle.tl_grammar.proofs.Combine.{bind_err, same_fault}
 use Rattle.tl_grammar.proofs.Deeper.{Deeper}
 use Rattle.tl_grammar.proofs.Rules.{sentence_law}
 use Rattle.tl_grammar.proofs.Sets.{same_split}
-use Rattle.tl_grammar.proofs.Theorem.{fault_law}
+use Rattle.tl_grammar.proofs.Theorem.{fault_law, found_law, one_law}
 
 deeper : (d : ℕ) → Deeper (sentence d) (sentence (suc d))
 deeper d = (sentence_law d).inner.near.deeper refl
@@ -115,3 +115,22 @@ pub nowhere_law : (d : ℕ) (ts : List Token) (l : ℕ) (e : Expected) → parse
 nowhere_law d ts l e h =
     let f = fault_law d ts (fault.Parse l e) h in
     (f.before, f.rest, f.whole, f.place, λ n. at_depth n d ts l e h f (either_way n d))
+
+-- a statement that nests deeper than it may is refused as that
+same_statement : (n d : ℕ) (ts : List Token) (x y : Statement) → IsStatement d ts x → IsStatement n ts y → ((k : ℕ) × (more k d ≡ n)) ⊎ ((k : ℕ) × (more k n ≡ d)) → y ≡ x
+same_statement n d ts x y h g (inl k) = one_law n ts y x g (subst (λ (z : ℕ). IsStatement z ts x) k.1 (grows k.0 d ts x h))
+same_statement n d ts x y h g (inr k) = one_law d ts y x (subst (λ (z : ℕ). IsStatement z ts y) k.1 (grows k.0 n ts y g)) h
+
+no_fault : (d : ℕ) (ts before rest : List Token) (x : Statement) → ts ≡ before ++ rest → IsStatement d ts x → GoesNowhere d before rest → ⊥
+no_fault d ts before [] x e h g = g x (subst (λ (z : List Token). IsStatement d z x) (e ∙ append-nil before) h)
+no_fault d ts before (t ∷ rest) x e h g = g (rest, x, subst (λ (z : List Token). IsStatement d z x) (e ∙ sym (append_assoc before (t ∷ []) rest)) h)
+
+answered_by : (n d : ℕ) (ts : List Token) (x : Statement) (r : Result Statement Fault) → IsStatement d ts x → parsed_within n ts ≡ r → (parsed_within n ts ≡ Ok x) ⊎ ((left : ℕ) × (parsed_within n ts ≡ Err (fault.Deep left)))
+answered_by n d ts x (Ok y) h e = inl (e ∙ ap (λ (z : Statement). Ok z) (same_statement n d ts x y h (found_law n ts y e) (either_way n d)))
+answered_by n d ts x (Err (fault.Deep left)) h e = inr (left, e)
+answered_by n d ts x (Err (fault.Parse left w)) h e =
+    let f = nowhere_law n ts left w e in
+    absurd (no_fault d ts f.0 f.1 x f.2 h (f.4 d))
+
+pub answered_law : (n d : ℕ) (ts : List Token) (x : Statement) → IsStatement d ts x → (parsed_within n ts ≡ Ok x) ⊎ ((left : ℕ) × (parsed_within n ts ≡ Err (fault.Deep left)))
+answered_law n d ts x h = answered_by n d ts x (parsed_within n ts) h refl

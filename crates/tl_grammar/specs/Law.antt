@@ -1,5 +1,5 @@
 -- What `parsed` is against the grammar, and where tokens stop being the beginning of a statement.
-use Rattle.std.specs.Prelude.{◌≡◌, ℕ, suc, List, [], ◌∷◌, ◌++◌, length, Option, Some, None, Ok, Err, ◌↔◌}
+use Rattle.std.specs.Prelude.{◌≡◌, ◌⊎◌, ℕ, suc, List, [], ◌∷◌, ◌++◌, length, Option, Some, None, Ok, Err, ◌↔◌}
 use Rattle.tl_grammar.specs.declared.fault.Expected.{Expected}
 use Rattle.tl_grammar.specs.declared.fault.Expected.TheVariants as want
 use Rattle.tl_grammar.specs.declared.fault.Fault.{Fault}
@@ -66,6 +66,10 @@ ParseFaultStops = (ts : List Token) (left : ℕ) (e : Expected) → parsed ts �
 -- where it nests too deep, one that nests deeper by one goes on
 abbrev pub DeepGoesOn : Type 0
 DeepGoesOn = (ts : List Token) (left : ℕ) → parsed ts ≡ Err (fault.Deep left) → DeepAt most_open ts left
+
+-- a statement of the grammar is parsed, or it nests too deep
+abbrev pub ParsedOrDeep : Type 0
+ParsedOrDeep = (d : ℕ) (ts : List Token) (x : Statement) → IsStatement d ts x → (parsed ts ≡ Ok x) ⊎ ((left : ℕ) × (parsed ts ≡ Err (fault.Deep left)))
 
 -- a fault's place in the text is that of the first token from there on, or the text's end
 abbrev pub FaultPlace : Type 0

@@ -1,4 +1,4 @@
-use Rattle.tl_grammar.proofs.Depth.{deep_law, nowhere_law}
+use Rattle.tl_grammar.proofs.Depth.{answered_law, deep_law, nowhere_law}
 use Rattle.tl_grammar.proofs.GoesOn.{goes_on_law}
 use Rattle.tl_grammar.proofs.Theorem.{fault_law, found_law, one_law, only_law, place_law}
 use Rattle.tl_grammar.proofs.Written as written
@@ -30,3 +30,6 @@ returns-clause-as_written c = written.as_written
 
 pub returns-clause-expected : goal.returns-clause-expected
 returns-clause-expected c = goes_on_law 64
+
+pub returns-clause-whole : goal.returns-clause-whole
+returns-clause-whole c = answered_law 64
