@@ -12,6 +12,7 @@ use Rattle.tl_grammar.proofs.RowLaw.{row_exact}
 use Rattle.tl_grammar.proofs.Alive.{Alive, Sample, bind_alive, bind_sample, deep_alive, either_alive, either_sample, one_alive, one_sample, other_sample, pure_alive, pure_sample, row_alive, row_sample}
 use Rattle.tl_grammar.proofs.Deeper.{Deeper, bind_deeper, either_deeper, nothing_deeper, one_deeper, pure_deeper, row_deeper}
 use Rattle.tl_grammar.specs.Law.{expected_of}
+use Rattle.tl_grammar.proofs.Asks.{Asks, bind_asks, either_asks, one_asks, placed_asks, pure_asks, row_asks, too_deep_asks}
 use Rattle.tl_grammar.proofs.Seeks.{Never, On, Seeks, as_begun, bind_seeks, either_seeks, on_first, on_left, on_placed, one_on, one_seeks, placed_seeks, pure_seeks, row_seeks}
 use Rattle.tl_grammar.proofs.Placed.{placed_alive, placed_deeper, placed_exact, placed_opens, placed_sample}
 
@@ -41,6 +42,7 @@ pub record Near {X : Type 0} (k : Asked) (F G : Form X) (first more : List ℕ) 
   pub low : Exact F first more null
   pub high : Exact G first more null
   pub low_lives : Alive F
+  pub low_asks : Asks F
   pub high_lives : Alive G
   pub deeper : asks_deeper k ≡ true → Deeper F G
   pub seeks : asks_all k ≡ true → Seeks Never F G
@@ -57,6 +59,7 @@ pub record Inner {X : Type 0} (k : Asked) (F G : Form X) (first more : List ℕ)
   pub high_opens : Opens G first
   pub near : Near k F G first more false
   pub on : asks_all k ≡ true → On G [] F.wants
+  pub low_wants : F.asks [] F.wants
 
 pub record Begun {X : Type 0} (k : Asked) (F G : Form X) (first more : List ℕ) : Type 0 where
   pub inner : Inner k F G first more
@@ -76,6 +79,7 @@ near_bind {A} {B} {k} {a} {c} {b} {d} {fa} {ma} {fb} {mb} {na} {nb} p q h =
       low_lives = bind_alive a b fa ma na p.low p.low_lives (λ x. (q x).near.low_lives) (λ x. (q x).low_sample);
       high_lives = bind_alive c d fa ma na p.high p.high_lives (λ x. (q x).near.high_lives) (λ x. (q x).high_sample);
       deeper = λ deep. bind_deeper a c b d fa ma na p.low p.high_lives (λ x. (q x).high_sample) (p.deeper deep) (λ x. (q x).near.deeper deep);
+      low_asks = bind_asks a b p.low.sound p.low_lives p.low_asks (λ x. (q x).near.low_asks);
       seeks = λ h.
           bind_seeks Never Never a c b d (p.deeper (all_is_deeper k h)).mono p.low.sound p.high_lives (λ x. (q x).high_sample) (p.seeks h) (λ x. (q x).near.seeks h) (λ x w n. absurd n);
     }
@@ -100,6 +104,7 @@ begun {A} {B} {k} {a} {c} {b} {d} {fa} {ma} {fb} {mb} {nb} p q h =
             high_opens = bind_opens c d fa fb mb nb p.inner.high_opens (λ x. (q x).near.high);
             near = near_bind p.inner.near q h;
             on = λ all. on_first c d (λ x. (q x).high_sample) [] a.wants (p.inner.on all);
+            low_wants = inl p.inner.low_wants;
           };
       low_sample = bind_sample a b p.low_sample (λ x. (q x).low_sample);
       high_sample = bind_sample c d p.high_sample (λ x. (q x).high_sample);
@@ -119,6 +124,7 @@ done x =
             low_lives = pure_alive x;
             high_lives = pure_alive x;
             deeper = λ deep. pure_deeper x;
+            low_asks = pure_asks x;
             seeks = λ all. pure_seeks x;
           };
       low_sample = pure_sample x;
@@ -135,6 +141,7 @@ near_either {X} {k} {a} {c} {b} {d} {fa} {ma} {fb} {mb} {nb} p q h =
       low_lives = either_alive a b p.near.low_lives q.low_lives;
       high_lives = either_alive c d p.near.high_lives q.high_lives;
       deeper = λ deep. either_deeper a b c d (p.near.deeper deep) (q.deeper deep);
+      low_asks = either_asks a b fa p.low_opens p.near.low.sound p.near.low_asks q.low_asks p.low_wants;
       seeks = λ all. either_seeks a b c d (as_begun a c (p.near.seeks all)) (q.seeks all) (on_left c d [] a.wants (p.on all));
     }
 
@@ -146,6 +153,7 @@ or_inner {X} {k} {a} {c} {b} {d} {fa} {ma} {fb} {mb} p q h =
       high_opens = either_opens c d fa fb p.high_opens q.high_opens;
       near = near_either p q.near h;
       on = λ all. on_left c d [] a.wants (p.on all);
+      low_wants = p.low_wants;
     }
 
 pub or : {X : Type 0} {k : Asked} {a c b d : Form X} {fa ma fb mb : List ℕ}
@@ -183,6 +191,7 @@ many_by {X} {Y} {k} {F} {G} {first} {mf} step acc p h =
             low_lives = row_alive step F acc first mf (λ x. (p x).near.low) (λ x. (p x).near.low_lives);
             high_lives = row_alive step G acc first mf (λ x. (p x).near.high) (λ x. (p x).near.high_lives);
             deeper = λ deep. row_deeper step F G acc first mf (λ x. (p x).near.low) (λ x. (p x).near.high_lives) (λ x. (p x).near.deeper deep);
+            low_asks = row_asks step F acc (λ x. (p x).near.low.sound) (λ x. (p x).near.low_lives) (λ x. (p x).near.low_asks) (λ x. (p x).low_wants);
             seeks = λ all.
                 row_seeks Never step F G acc (λ x. ((p x).near.deeper (all_is_deeper k all)).mono) (λ x. (p x).near.low.sound) (λ x. (p x).near.high_lives) (λ x. as_begun (F x) (G x) ((p x).near.seeks all)) (λ x. inl ((p x).on all));
           };
@@ -208,9 +217,11 @@ leaf_near e pick first f on =
             low_lives = one_alive e pick;
             high_lives = one_alive e pick;
             deeper = λ deep. one_deeper e pick;
+            low_asks = one_asks e pick;
             seeks = λ all. one_seeks e pick (on all);
           };
       on = on;
+      low_wants = (refl, refl);
     }
 
 pub leaf : {X : Type 0} {k : Asked} (e : Expected) (pick : Token → Option X) (first : List ℕ) → ((t : Token) → some (pick t) ≡ true → among first t ≡ true)
@@ -240,9 +251,11 @@ none e first =
             low_lives = deep_alive (λ t. false) e;
             high_lives = deep_alive (λ t. false) e;
             deeper = λ deep. nothing_deeper e;
+            low_asks = too_deep_asks (λ t. false) e;
             seeks = λ all. absurd (cc);
           };
       on = λ all. absurd (cc);
+      low_wants = (refl, refl);
     }
 
 -- what it looks for goes on
@@ -260,9 +273,11 @@ full k p seeks on =
                   low_lives = p.inner.near.low_lives;
                   high_lives = p.inner.near.high_lives;
                   deeper = λ deep. p.inner.near.deeper refl;
+                  low_asks = p.inner.near.low_asks;
                   seeks = λ all. seeks;
                 };
             on = λ all. on;
+            low_wants = p.inner.low_wants;
           };
       low_sample = p.low_sample;
       high_sample = p.high_sample;
@@ -283,9 +298,11 @@ at_place {X} {k} {a} {c} {first} {more} p =
                   low_lives = placed_alive a first p.inner.low_opens p.inner.near.low_lives;
                   high_lives = placed_alive c first p.inner.high_opens p.inner.near.high_lives;
                   deeper = λ deep. placed_deeper a c (p.inner.near.deeper deep);
+                  low_asks = placed_asks a p.inner.near.low_asks;
                   seeks = λ all. placed_seeks a c (p.inner.near.seeks all);
                 };
             on = λ all. on_placed c [] a.wants (p.inner.on all);
+            low_wants = p.inner.low_wants;
           };
       low_sample = placed_sample a first p.inner.low_opens p.low_sample;
       high_sample = placed_sample c first p.inner.high_opens p.high_sample;
@@ -305,13 +322,13 @@ exact_more {X} {F} {first} {more} {wide} {null} p h =
 
 near_more : {X : Type 0} {k : Asked} {F G : Form X} {first more wide : List ℕ} {null : Bool} → Near k F G first more null → within more wide ≡ true → Near k F G first wide null
 near_more p h =
-    record { low = exact_more p.low h; high = exact_more p.high h; low_lives = p.low_lives; high_lives = p.high_lives; deeper = p.deeper; seeks = p.seeks }
+    record { low = exact_more p.low h; high = exact_more p.high h; low_lives = p.low_lives; high_lives = p.high_lives; low_asks = p.low_asks; deeper = p.deeper; seeks = p.seeks }
 
 pub wider : {X : Type 0} {k : Asked} {F G : Form X} {first more wide : List ℕ} {null : Bool} → Law k F G first more null → within more wide ≡ true → Law k F G first wide null
 wider p h = record { near = near_more p.near h; low_sample = p.low_sample; high_sample = p.high_sample }
 
 pub inner_wider : {X : Type 0} {k : Asked} {F G : Form X} {first more wide : List ℕ} → Inner k F G first more → within more wide ≡ true → Inner k F G first wide
-inner_wider p h = record { low_opens = p.low_opens; high_opens = p.high_opens; near = near_more p.near h; on = p.on }
+inner_wider p h = record { low_opens = p.low_opens; high_opens = p.high_opens; near = near_more p.near h; on = p.on; low_wants = p.low_wants }
 
 pub begun_wider : {X : Type 0} {k : Asked} {F G : Form X} {first more wide : List ℕ} → Begun k F G first more → within more wide ≡ true → Begun k F G first wide
 begun_wider p h = record { inner = inner_wider p.inner h; low_sample = p.low_sample; high_sample = p.high_sample }

@@ -116,7 +116,7 @@ goes_on_with d u want.Number o = (o.0, o.1, begins_with d u want.Number o)
 goes_on_with d u want.Sign o = (o.0, o.1, begins_with d u want.Sign o)
 goes_on_with d u want.End o = absurd (never_end o.0.kind o.1)
 
-carried_nothing : (u : List Token) → carried None u ≡ None
+pub carried_nothing : (u : List Token) → carried None u ≡ None
 carried_nothing [] = refl
 carried_nothing (t ∷ u) = refl
 
@@ -167,7 +167,7 @@ behind d ts l e x mid next h (inr k) z =
           (x, whole_with (suc d) p.0 k.0 x k.3 (statement_front d (fresh ts) mid p.0 x p.1 h) k.4),
     )
 
-ended_err : (x : Statement) (at : Cursor) (ts : List Token) (l : ℕ) (e : Expected) → at.rest ≡ ts → ended x at ts ≡ Err (fault.Parse l e) → (l ≡ length at.rest) × (e ≡ or_else at.wanted want.End)
+pub ended_err : (x : Statement) (at : Cursor) (ts : List Token) (l : ℕ) (e : Expected) → at.rest ≡ ts → ended x at ts ≡ Err (fault.Parse l e) → (l ≡ length at.rest) × (e ≡ or_else at.wanted want.End)
 ended_err x at [] l e same h = absurd (cc)
 ended_err x at (t ∷ ts) l e same h = refused_is {A = Statement} want.End at l e h
 

@@ -1,6 +1,8 @@
 pub mod Alive
+pub mod Asks
 pub mod Choose
 pub mod Combine
+pub mod ComesFirst
 pub mod Deeper
 pub mod Depth
 pub mod Exact

@@ -30,6 +30,7 @@ use Rattle.tl_grammar.proofs.Sets.{apart_none}
 use Rattle.tl_grammar.proofs.Choose.{deep_exact, deep_opens}
 use Rattle.tl_grammar.proofs.Alive.{Alive, Sample, bind_sample, deep_alive, row_sample}
 use Rattle.tl_grammar.proofs.Deeper.{Deeper, either_deeper, too_deep_deeper}
+use Rattle.tl_grammar.proofs.Asks.{too_deep_asks}
 use Rattle.tl_grammar.proofs.Seeks.{BegunSeeks, Never, On, Seeks, as_begun, bind_seeks, either_seeks, nothing_seeks, on_first, on_left, on_right, one_begun_seeks, row_seeks, too_deep_seeks}
 use Rattle.tl_grammar.proofs.Forms.{Alone, Asked, Begun, Deep, Full, Inner, Law, Near, at_place, begun, begun_wider, done, full, inner_wider, last, many, many_by, next, none, or, or_first, or_inner, or_none, or_sure, pass, wider}
 use Rattle.tl_grammar.proofs.Leaves.{comparison_law, comparisons, constant_law, constants, name_law, negative_number_law, node_law, number_law, order_number_law, plus_or_minus_law, positive_law, sign_begins, sign_law, sums, text_law, type_law, types, word_begins, word_law}
@@ -160,10 +161,12 @@ too_deep_law begins e first f =
             high = deep_exact begins e first;
             low_lives = deep_alive begins e;
             high_lives = deep_alive begins e;
+            low_asks = too_deep_asks begins e;
             deeper = λ deep. absurd (cc);
             seeks = λ all. absurd (cc);
           };
       on = λ all. absurd (cc);
+      low_wants = (refl, refl);
     }
 
 open_too_deep : {X : Type 0} → Inner {X = X} Alone (too_deep (λ t. some (sign_kind s.Open t.start t.kind)) want.Sign) (too_deep (λ t. some (sign_kind s.Open t.start t.kind)) want.Sign) (of_sign s.Open ∷ []) []
@@ -184,10 +187,12 @@ near_deep k p q d seeks on =
             high = q.near.high;
             low_lives = p.near.low_lives;
             high_lives = q.near.high_lives;
+            low_asks = p.near.low_asks;
             deeper = λ deep. d;
             seeks = λ all. seeks;
           };
       on = λ all. on;
+      low_wants = p.low_wants;
     }
 
 inside_law : {X : Type 0} {k : Asked} {F G : Form X} {first more : List ℕ} → Begun k F G first more → apart more (of_sign s.Close ∷ []) ≡ true
@@ -278,7 +283,8 @@ nested_seeks : (b : Form Cond) → Nests Alone b b
     → Seeks Never (either (too_deep (λ t. some (word_kind w.Not t.start t.kind)) want.Word) (too_deep (λ t. some (sign_kind s.Open t.start t.kind)) want.Sign)) (either (negated b) (in_brackets (cond_form b)))
 nested_seeks b h =
     let on = negated_on b h in
-    either_seeks _ _ (negated b) (in_brackets (cond_form b)) (as_begun _ (negated b) (too_deep_seeks (λ t. some (word_kind w.Not t.start t.kind)) want.Word (negated b) on))
+    either_seeks (too_deep (λ t. some (word_kind w.Not t.start t.kind)) want.Word) (too_deep (λ t. some (sign_kind s.Open t.start t.kind)) want.Sign) (negated b) (in_brackets (cond_form b))
+    (as_begun (too_deep (λ t. some (word_kind w.Not t.start t.kind)) want.Word) (negated b) (too_deep_seeks (λ t. some (word_kind w.Not t.start t.kind)) want.Word (negated b) on))
     (too_deep_seeks (λ t. some (sign_kind s.Open t.start t.kind)) want.Sign (in_brackets (cond_form b)) (brackets_on (cond_law b b h) refl)) (on_left (negated b) (in_brackets (cond_form b)) [] want.Word on)
 
 nests_more : {k : Asked} (b c : Form Cond) → Nests k b c → Nests k (either (negated b) (in_brackets (cond_form b))) (either (negated c) (in_brackets (cond_form c)))

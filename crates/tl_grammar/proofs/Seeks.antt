@@ -59,14 +59,14 @@ sought_map : (P Q : Expected → Type 0) (from to : Option Expected) → ((w : E
 sought_map P Q from to f (inl e) = inl e
 sought_map P Q from to f (inr k) = inr (k.0, k.1, f k.0 k.2)
 
-named_map : (P Q : Expected → Type 0) (from : Option Expected) (e : Expected) → ((w : Expected) → P w → Q w) → Named P from e → Named Q from e
+pub named_map : (P Q : Expected → Type 0) (from : Option Expected) (e : Expected) → ((w : Expected) → P w → Q w) → Named P from e → Named Q from e
 named_map P Q from e f k = (k.0, k.1, f k.0 k.2)
 
-carried_more : (from : Option Expected) (u : List Token) (t : Token) (v : List Token) → None ≡ carried from (u ++ (t ∷ v))
+pub carried_more : (from : Option Expected) (u : List Token) (t : Token) (v : List Token) → None ≡ carried from (u ++ (t ∷ v))
 carried_more from [] t v = refl
 carried_more from (s ∷ u) t v = refl
 
-carried_none : (from : Option Expected) (u : List Token) → carried from u ≡ carried from (u ++ [])
+pub carried_none : (from : Option Expected) (u : List Token) → carried from u ≡ carried from (u ++ [])
 carried_none from [] = refl
 carried_none from (s ∷ u) = refl
 
@@ -118,7 +118,7 @@ picked_err : {X : Type 0} (e : Expected) (p : Option X) (at : Cursor) (ts : List
 picked_err {X} e None at ts l x h = refused_is {A = X × Cursor} e at l x h
 picked_err e (Some y) at ts l x h = absurd (cc)
 
-one_err : {X : Type 0} (e : Expected) (pick : Token → Option X) (at : Cursor) (ts : List Token) (l : ℕ) (x : Expected) → read_one pick e at ts ≡ Err (fault.Parse l x) → (l ≡ length at.rest) × (x ≡ or_else at.wanted e)
+pub one_err : {X : Type 0} (e : Expected) (pick : Token → Option X) (at : Cursor) (ts : List Token) (l : ℕ) (x : Expected) → read_one pick e at ts ≡ Err (fault.Parse l x) → (l ≡ length at.rest) × (x ≡ or_else at.wanted e)
 one_err {X} e pick at [] l x h = refused_is {A = X × Cursor} e at l x h
 one_err e pick at (t ∷ ts) l x h = picked_err e (pick t) at ts l x h
 
@@ -399,7 +399,7 @@ placed_seeks {X} a c s =
     lift_placed c u w (inr h) = inr h
 
 -- what is too deep, beside what isn't
-deep_named : {X : Type 0} (e : Expected) (at : Cursor) (b : Bool) (l : ℕ) (x : Expected) → not_deep {X = X} e at b ≡ Err (fault.Parse l x) → (l ≡ length at.rest) × (x ≡ or_else at.wanted e)
+pub deep_named : {X : Type 0} (e : Expected) (at : Cursor) (b : Bool) (l : ℕ) (x : Expected) → not_deep {X = X} e at b ≡ Err (fault.Parse l x) → (l ≡ length at.rest) × (x ≡ or_else at.wanted e)
 deep_named {X} e at true l x h = absurd (let z = same_fault {A = X × Cursor} (fault.Deep (length at.rest)) (fault.Parse l x) h in cc)
 deep_named {X} e at false l x h = refused_is {A = X × Cursor} e at l x h
 

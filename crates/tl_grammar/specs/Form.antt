@@ -1,5 +1,6 @@
--- Forms: what a grammar is written in. Each has two meanings, which tokens are of it, and how it is read.
-use Rattle.std.specs.Prelude.{◌≡◌, ℕ, zero, suc, Bool, true, false, ◌||◌, List, [], ◌∷◌, length, Option, Some, None, Result, Ok, Err, ◌⊎◌, if◌then◌else◌}
+-- Forms: what a grammar is written in. Each has three meanings: which tokens are of it, how it is read, and what may come
+-- next where its tokens break off.
+use Rattle.std.specs.Prelude.{◌≡◌, ℕ, zero, suc, Bool, true, false, ◌||◌, List, [], ◌∷◌, ◌++◌, length, Option, Some, None, Result, Ok, Err, ◌⊎◌, if◌then◌else◌}
 use Rattle.tl_grammar.specs.declared.fault.Expected.{Expected}
 use Rattle.tl_grammar.specs.declared.fault.Expected.TheVariants as want
 use Rattle.tl_grammar.specs.declared.fault.Fault.{Fault}
@@ -20,6 +21,10 @@ pub record Form (X : Type 0) : Type 1 where
   pub begins : Token → Bool
   -- the kind of its first token, by the first form listed
   pub wants : Expected
+  -- of what may come behind these tokens, with which one begins, this comes first in the order in which it is written
+  pub asks : List Token → Expected → Type 0
+  -- these tokens are one, and nothing more may come
+  pub ends : List Token → Type 0
 
 abbrev pub or_else : Option Expected → Expected → Expected
 or_else None e = e
@@ -63,6 +68,10 @@ abbrev pub read_one : {X : Type 0} → (Token → Option X) → Expected → Cur
 read_one pick e at [] = refused e at
 read_one pick e at (t ∷ ts) = picked (pick t) e at ts
 
+abbrev pub ends_one : {X : Type 0} → (Token → Option X) → List Token → Type 0
+ends_one pick [] = ⊥
+ends_one pick (t ∷ ts) = (some (pick t) ≡ true) × (ts ≡ [])
+
 abbrev pub one : {X : Type 0} → Expected → (Token → Option X) → Form X
 one e pick =
     record {
@@ -70,6 +79,8 @@ one e pick =
       read = λ at. read_one pick e at at.rest;
       begins = λ t. some (pick t);
       wants = e;
+      asks = λ ts w. (ts ≡ []) × (w ≡ e);
+      ends = ends_one pick;
     }
 
 -- no token
@@ -80,9 +91,15 @@ pure x =
       read = λ at. Ok (x, at);
       begins = λ t. false;
       wants = want.End;
+      asks = λ ts w. ⊥;
+      ends = λ ts. ts ≡ [];
     }
 
--- one form behind the other
+-- these tokens are one, and behind them come those; where none come, nothing more of it may
+abbrev pub IsBefore : {X : Type 0} → Form X → X → List Token → List Token → Type 0
+IsBefore form x ts more = form.is ts x [] × (more ≡ [] → form.ends ts)
+
+-- one form behind the other: while more of the first may come, that is asked for
 infixl 10 ◌>>=◌
 abbrev pub ◌>>=◌ : {A B : Type 0} → Form A → (A → Form B) → Form B
 ◌>>=◌ {A} {B} a b =
@@ -91,9 +108,20 @@ abbrev pub ◌>>=◌ : {A B : Type 0} → Form A → (A → Form B) → Form B
       read = λ at. a.read at >>=ᵣ λ r. (b r.0).read r.1;
       begins = a.begins;
       wants = a.wants;
+      asks = λ ts w. a.asks ts w ⊎ ((x : A) × (u : List Token) × (v : List Token) × (ts ≡ u ++ v) × IsBefore a x u v × (b x).asks v w);
+      ends = λ ts. (x : A) × (u : List Token) × (v : List Token) × (ts ≡ u ++ v) × IsBefore a x u v × (b x).ends v;
     }
 
--- the one or the other
+-- the one that has begun; the first, while none has
+abbrev pub asks_either : {X : Type 0} → Form X → Form X → List Token → Expected → Type 0
+asks_either a b [] w = a.asks [] w
+asks_either a b (t ∷ ts) w = a.asks (t ∷ ts) w ⊎ b.asks (t ∷ ts) w
+
+abbrev pub ends_either : {X : Type 0} → Form X → Form X → List Token → Type 0
+ends_either a b [] = ⊥
+ends_either a b (t ∷ ts) = a.ends (t ∷ ts) ⊎ b.ends (t ∷ ts)
+
+-- the one, which isn't empty, or the other
 abbrev pub either : {X : Type 0} → Form X → Form X → Form X
 either a b =
     record {
@@ -101,6 +129,8 @@ either a b =
       read = λ at. if starts a.begins at.rest then a.read at else b.read (missing a.wants at);
       begins = λ t. a.begins t || b.begins t;
       wants = a.wants;
+      asks = asks_either a b;
+      ends = ends_either a b;
     }
 
 -- this many in a row, each of which changes what is there; which form comes next may follow from what is there
@@ -114,7 +144,12 @@ read_row step form (suc n) acc at =
     if starts (form acc).begins at.rest then (form acc).read at >>=ᵣ (λ r. read_row step form n (step acc r.0) r.1)
     else Ok (acc, missing (form acc).wants at)
 
--- as many in a row as there are
+-- behind so many of them
+abbrev pub asks_row : {X Y : Type 0} → (X → Y → X) → (X → Form Y) → X → List Token → List Y → Expected → Type 0
+asks_row step form acc ts [] w = (form acc).asks ts w
+asks_row step form acc ts (y ∷ ys) w = (u : List Token) × (v : List Token) × (ts ≡ u ++ v) × IsBefore (form acc) y u v × asks_row step form (step acc y) v ys w
+
+-- as many in a row as there are: one more may always come
 abbrev pub row_by : {X Y : Type 0} → (X → Y → X) → (X → Form Y) → X → Form X
 row_by {X} {Y} step form acc =
     record {
@@ -122,6 +157,8 @@ row_by {X} {Y} step form acc =
       read = λ at. read_row step form (length at.rest) acc at;
       begins = (form acc).begins;
       wants = (form acc).wants;
+      asks = λ ts w. (ys : List Y) × asks_row step form acc ts ys w;
+      ends = λ ts. ⊥;
     }
 
 -- as many of one form as there are
@@ -136,9 +173,11 @@ too_deep begins e =
       read = λ at. if starts begins at.rest then Err (fault.Deep (length at.rest)) else refused e at;
       begins = begins;
       wants = e;
+      asks = λ ts w. (ts ≡ []) × (w ≡ e);
+      ends = λ ts. ⊥;
     }
 
--- nothing is of this form, and no token begins it
+-- nothing is of this form, and no token begins it, but this is asked for
 abbrev pub nothing : {X : Type 0} → Expected → Form X
 nothing e = too_deep (λ t. false) e
 
@@ -154,4 +193,6 @@ placed a =
       read = λ at. a.read at >>=ᵣ λ r. Ok ((place_of at.rest, r.0), r.1);
       begins = a.begins;
       wants = a.wants;
+      asks = a.asks;
+      ends = a.ends;
     }

@@ -10,7 +10,7 @@ use Rattle.tl_grammar.specs.declared.statement.ColumnForm.{ColumnForm}
 use Rattle.tl_grammar.specs.Token.{Kind, Token}
 use Rattle.tl_grammar.specs.Token as kind
 use Rattle.tl_grammar.specs.Form.{Form, ◌>>=◌, pure}
-use Rattle.tl_grammar.specs.Grammar.{IsStatement, column_form, comma, entries, fault_place, list, most_open, names, optional, parsed, place_or_end, primary_key}
+use Rattle.tl_grammar.specs.Grammar.{IsStatement, column_form, comma, entries, fault_place, list, most_open, names, optional, parsed, place_or_end, primary_key, sentence}
 
 -- these tokens begin a statement in which so many brackets and NOT are open at once, and no more
 abbrev pub Begins : ℕ → List Token → Type 0
@@ -93,6 +93,15 @@ GoesOnWith d before e = (t : Token) × (expected_of t.kind ≡ Some e) × Begins
 abbrev pub ExpectedGoesOn : Type 0
 ExpectedGoesOn = (ts : List Token) (left : ℕ) (e : Expected) → parsed ts ≡ Err (fault.Parse left e)
     → (before : List Token) × (rest : List Token) × (ts ≡ before ++ rest) × (left ≡ length rest) × GoesOnWith (suc most_open) before e
+
+-- of what may come behind these tokens this comes first in the order in which the grammar is written; where nothing more
+-- may, it is the end
+abbrev pub ComesFirst : ℕ → List Token → Expected → Type 0
+ComesFirst d before e = (sentence d).asks before e ⊎ ((sentence d).ends before × (e ≡ want.End))
+
+abbrev pub ExpectedComesFirst : Type 0
+ExpectedComesFirst = (ts : List Token) (left : ℕ) (e : Expected) → parsed ts ≡ Err (fault.Parse left e)
+    → (before : List Token) × (rest : List Token) × (ts ≡ before ++ rest) × (left ≡ length rest) × ComesFirst most_open before e
 
 -- column {, column} [, PRIMARY KEY ( name {, name} )], as it is written
 unfoldable pub table_key : Form (List Name)

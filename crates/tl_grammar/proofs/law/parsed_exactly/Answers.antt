@@ -1,3 +1,4 @@
+use Rattle.tl_grammar.proofs.ComesFirst.{comes_first_law}
 use Rattle.tl_grammar.proofs.Depth.{answered_law, deep_law, nowhere_law}
 use Rattle.tl_grammar.proofs.GoesOn.{goes_on_law}
 use Rattle.tl_grammar.proofs.Theorem.{fault_law, found_law, one_law, only_law, place_law}
@@ -33,3 +34,6 @@ returns-clause-expected c = goes_on_law 64
 
 pub returns-clause-whole : goal.returns-clause-whole
 returns-clause-whole c = answered_law 64
+
+pub returns-clause-first : goal.returns-clause-first
+returns-clause-first c = comes_first_law 64
