@@ -1,11 +1,10 @@
 -- What a form names comes first there, in the order in which the grammar is written.
-use Rattle.std.proofs.Common.{◌≡◌, ℕ, zero, suc, ◌<◌, Bool, true, false, ◌⊎◌, inl, inr, List, [], ◌∷◌, ◌++◌, append_assoc, length, Option, Some, None, Result, Ok, Err, refl, sym, subst, ap, ◌∙◌, arith}
+use Rattle.std.proofs.Common.{◌≡◌, ℕ, zero, suc, ◌<◌, Bool, true, false, ◌⊎◌, inl, inr, List, [], ◌∷◌, ◌++◌, append_assoc, length, Option, Some, None, Ok, Err, refl, sym, subst, ap, ◌∙◌, arith}
 use Rattle.std.proofs.lemmas.List.{append-nil}
 use Rattle.tl_grammar.specs.declared.fault.Expected.{Expected}
-use Rattle.tl_grammar.specs.declared.fault.Fault.{Fault}
 use Rattle.tl_grammar.specs.declared.fault.Fault.TheVariants as fault
 use Rattle.tl_grammar.specs.Token.{Token}
-use Rattle.tl_grammar.specs.Form.{Cursor, Form, IsBefore, ◌>>=ᵣ◌, ◌>>=◌, asks_either, asks_row, either, ends_either, ends_one, fresh, missing, one, or_else, placed, pure, read_one, read_row, row_by, some, starts, too_deep}
+use Rattle.tl_grammar.specs.Form.{Cursor, Form, ◌>>=◌, either, ends_one, missing, one, or_else, placed, pure, read_one, read_row, row_by, some, starts, too_deep}
 use Rattle.tl_grammar.proofs.Exact.{Opens}
 use Rattle.tl_grammar.proofs.Combine.{bind_err, bind_ok, same_ok, sound_pick}
 use Rattle.tl_grammar.proofs.Choose.{by_start, first_read, second_read}

@@ -1,5 +1,5 @@
 -- What is expected comes first.
-use Rattle.std.proofs.Common.{◌≡◌, ℕ, ◌⊎◌, inl, inr, List, [], ◌∷◌, ◌++◌, length, Option, Some, None, Err, Ok, refl, sym, subst, ap, ◌∙◌}
+use Rattle.std.proofs.Common.{◌≡◌, ℕ, ◌⊎◌, inl, inr, List, ◌++◌, length, Option, Some, None, Err, Ok, refl, sym, subst, ap, ◌∙◌}
 use Rattle.tl_grammar.specs.declared.fault.Expected.{Expected}
 use Rattle.tl_grammar.specs.declared.fault.Expected.TheVariants as want
 use Rattle.tl_grammar.specs.declared.fault.Fault.TheVariants as fault

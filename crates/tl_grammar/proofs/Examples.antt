@@ -1,5 +1,5 @@
 -- Texts, and what the grammar reads in them. What is expected was computed by an independent reader in Python.
-use Rattle.std.proofs.Common.{◌≡◌, ℕ, ℤ, pos, negsuc, Bool, true, false, List, [], ◌∷◌, ◌++◌, length, map, Option, Some, None, Result, Ok, Err, codes, refl}
+use Rattle.std.proofs.Common.{◌≡◌, ℕ, pos, negsuc, true, false, List, [], ◌∷◌, length, map, Option, Some, None, Result, Ok, Err, codes, refl}
 use Rattle.tl_values.specs.declared.value.Comparison.TheVariants as compare
 use Rattle.tl_values.specs.declared.value.Kind.TheVariants as type
 use Rattle.tl_values.specs.declared.value.Value.{Value}

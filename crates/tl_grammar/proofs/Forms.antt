@@ -1,9 +1,9 @@
 -- What is shown of each form, with the form that may nest deeper by one.
-use Rattle.std.proofs.Common.{◌≡◌, ℕ, Bool, true, false, ◌&&◌, inl, List, [], ◌∷◌, ◌++◌, Option, Some, None, refl, ap}
+use Rattle.std.proofs.Common.{◌≡◌, ℕ, Bool, true, false, ◌&&◌, inl, List, [], ◌++◌, Option, Some, refl}
 use Rattle.tl_grammar.specs.declared.fault.Expected.{Expected}
 use Rattle.tl_grammar.specs.Token.{Token}
 use Rattle.tl_grammar.specs.Form.{Form, ◌>>=◌, either, nothing, one, placed, pure, row, row_by, some}
-use Rattle.tl_grammar.specs.Classes.{among, apart, class_of, mem, within}
+use Rattle.tl_grammar.specs.Classes.{among, apart, class_of, within}
 use Rattle.tl_grammar.proofs.Exact.{Exact, Opens}
 use Rattle.tl_grammar.proofs.Sets.{stops_at, within_mem}
 use Rattle.tl_grammar.proofs.Combine.{bind_exact, bind_opens, joined, one_exact, one_opens, pure_exact}

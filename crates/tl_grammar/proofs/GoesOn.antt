@@ -10,7 +10,7 @@ use Rattle.tl_grammar.specs.declared.statement.Statement.{Statement}
 use Rattle.tl_grammar.specs.Token.{Kind, Token}
 use Rattle.tl_grammar.specs.Token as kind
 use Rattle.tl_grammar.specs.Pick.{sign_kind}
-use Rattle.tl_grammar.specs.Form.{Cursor, ◌>>=ᵣ◌, ◌>>=◌, either, fresh, missing, nothing, or_else, pure, read_one, refused, starts}
+use Rattle.tl_grammar.specs.Form.{Cursor, ◌>>=ᵣ◌, ◌>>=◌, fresh, missing, nothing, or_else, pure, read_one, starts}
 use Rattle.tl_grammar.specs.Grammar.{IsStatement, ended, ending, given, parsed_within, sentence, sign, statement_form}
 use Rattle.tl_grammar.specs.Law.{Begins, GoesOnWith, expected_of}
 use Rattle.tl_grammar.proofs.Combine.{bind_err, bind_ok, same_ok, sound_pick}

@@ -1,6 +1,6 @@
 -- The laws of the grammar's rules. Each is put together from those of its parts; that the tokens that may go on with a
 -- part don't begin what stands behind it is decided by `refl`.
-use Rattle.std.proofs.Common.{◌≡◌, ℕ, zero, suc, Bool, true, false, ◌&&◌, ◌⊎◌, inl, inr, List, [], ◌∷◌, ◌++◌, Option, Some, None, refl, sym, subst}
+use Rattle.std.proofs.Common.{◌≡◌, ℕ, zero, suc, Bool, true, false, ◌⊎◌, inl, inr, List, [], ◌∷◌, ◌++◌, Option, Some, None, refl, sym, subst}
 use Rattle.tl_grammar.specs.declared.fault.Expected.{Expected}
 use Rattle.tl_grammar.specs.declared.fault.Expected.TheVariants as want
 use Rattle.tl_grammar.specs.declared.token.Word.{Word}
@@ -22,18 +22,17 @@ use Rattle.tl_grammar.specs.declared.statement.ColumnForm.{ColumnForm}
 use Rattle.tl_grammar.specs.declared.statement.Statement.TheVariants as statement
 use Rattle.tl_grammar.specs.Token.{Token}
 use Rattle.tl_grammar.specs.Pick.{sign_kind, text_kind, word_kind}
-use Rattle.tl_grammar.specs.Form.{Form, ◌>>=◌, either, one, pure, row_by, some, too_deep}
-use Rattle.tl_grammar.specs.Grammar.{Column, Entry, Key, aggregate, all, all_columns, all_form, all_rows, and_part, any, as_name, ascending, begin, behind, bracketed, chain, column, column_entry, column_form, column_of, column_operand, comma, commit, compared, cond_form, constant, count, counted, create, create_index, create_table, delete, descending, direction, dot_name, ending, entries, entry, expr, factor, from_item, from_items, given, greatest, group_by, in_brackets, inner_join, insert, items, joined, key_entry, least, limit, list, list_or_none, literal, literal_operand, more_from, name, names, negated, negative, nested, not_form, not_null, null_test, operand_form, optional, or_part, order_by, order_column, order_item, plain, plus, primary_key, recover, rollback, select, select_form, select_item, sentence, set_item, shown_expr, sign, some_items, statement_form, sum, term, test, text, times, tuple, update, where_form, with_entry, word}
+use Rattle.tl_grammar.specs.Form.{Form, ◌>>=◌, either, pure, row_by, some, too_deep}
+use Rattle.tl_grammar.specs.Grammar.{Column, Key, aggregate, all, all_columns, all_form, all_rows, and_part, any, as_name, ascending, begin, behind, bracketed, chain, column, column_entry, column_form, column_of, column_operand, comma, commit, compared, cond_form, constant, count, counted, create, create_index, create_table, delete, descending, direction, dot_name, ending, entries, entry, expr, factor, from_item, from_items, given, greatest, group_by, in_brackets, inner_join, insert, items, joined, key_entry, least, limit, list, list_or_none, literal, literal_operand, more_from, names, negated, negative, nested, not_form, not_null, null_test, operand_form, optional, or_part, order_by, order_column, order_item, plain, plus, primary_key, recover, rollback, select, select_form, select_item, sentence, set_item, shown_expr, sign, some_items, statement_form, sum, term, test, text, times, tuple, update, where_form, with_entry, word}
 use Rattle.tl_grammar.specs.Classes.{among, apart, of_name, of_number, of_sign, of_text, of_word}
-use Rattle.tl_grammar.proofs.Exact.{Exact, Opens}
 use Rattle.tl_grammar.proofs.Sets.{apart_none}
 use Rattle.tl_grammar.proofs.Choose.{deep_exact, deep_opens}
-use Rattle.tl_grammar.proofs.Alive.{Alive, Sample, bind_sample, deep_alive, row_sample}
+use Rattle.tl_grammar.proofs.Alive.{Sample, bind_sample, deep_alive, row_sample}
 use Rattle.tl_grammar.proofs.Deeper.{Deeper, either_deeper, too_deep_deeper}
 use Rattle.tl_grammar.proofs.Asks.{too_deep_asks}
 use Rattle.tl_grammar.proofs.Seeks.{BegunSeeks, Never, On, Seeks, as_begun, bind_seeks, either_seeks, nothing_seeks, on_first, on_left, on_right, one_begun_seeks, row_seeks, too_deep_seeks}
-use Rattle.tl_grammar.proofs.Forms.{Alone, Asked, Begun, Deep, Full, Inner, Law, Near, at_place, begun, begun_wider, done, full, inner_wider, last, many, many_by, next, none, or, or_first, or_inner, or_none, or_sure, pass, wider}
-use Rattle.tl_grammar.proofs.Leaves.{comparison_law, comparisons, constant_law, constants, name_law, negative_number_law, node_law, number_law, order_number_law, plus_or_minus_law, positive_law, sign_begins, sign_law, sums, text_law, type_law, types, word_begins, word_law}
+use Rattle.tl_grammar.proofs.Forms.{Alone, Asked, Begun, Deep, Full, Inner, Law, at_place, begun, begun_wider, done, full, inner_wider, last, many, many_by, next, none, or, or_first, or_inner, or_none, or_sure, pass, wider}
+use Rattle.tl_grammar.proofs.Leaves.{comparison_law, comparisons, constant_law, constants, name_law, negative_number_law, node_law, number_law, order_number_law, plus_or_minus_law, positive_law, sign_begins, sign_law, sums, text_law, type_law, word_begins, word_law}
 
 -- what rules are written with
 optional_law : {X : Type 0} {k : Asked} {F G : Form X} {first more : List ℕ} → Begun k F G first more → Law k (optional F) (optional G) (first ++ []) (more ++ first) true

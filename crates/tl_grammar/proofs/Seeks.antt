@@ -1,13 +1,11 @@
 -- What a form looks for in vain goes on there.
-use Rattle.std.proofs.Common.{◌≡◌, ℕ, zero, suc, Bool, true, false, ◌||◌, ◌⊎◌, inl, inr, List, [], ◌∷◌, ◌++◌, append_assoc, length, cond, Option, Some, None, Result, Ok, Err, refl, sym, subst, ap, ◌∙◌}
+use Rattle.std.proofs.Common.{◌≡◌, ℕ, zero, suc, Bool, true, false, ◌⊎◌, inl, inr, List, [], ◌∷◌, ◌++◌, append_assoc, length, Option, Some, None, Ok, Err, refl, sym, subst, ap, ◌∙◌}
 use Rattle.std.proofs.lemmas.List.{append-nil}
 use Rattle.tl_grammar.specs.declared.fault.Expected.{Expected}
-use Rattle.tl_grammar.specs.declared.fault.Fault.{Fault}
 use Rattle.tl_grammar.specs.declared.fault.Fault.TheVariants as fault
 use Rattle.tl_grammar.specs.Token.{Token}
-use Rattle.tl_grammar.specs.Form.{Cursor, Form, ◌>>=ᵣ◌, ◌>>=◌, either, fresh, missing, nothing, one, or_else, picked, place_of, placed, pure, read_one, read_row, refused, row_by, some, starts, too_deep}
+use Rattle.tl_grammar.specs.Form.{Cursor, Form, ◌>>=◌, either, missing, nothing, one, or_else, picked, place_of, placed, pure, read_one, read_row, refused, row_by, some, starts, too_deep}
 use Rattle.tl_grammar.specs.Law.{expected_of}
-use Rattle.tl_grammar.proofs.Exact.{Exact}
 use Rattle.tl_grammar.proofs.Sets.{same_front}
 use Rattle.tl_grammar.proofs.Combine.{bind_err, bind_ok, same_fault, same_ok, sound_pick}
 use Rattle.tl_grammar.proofs.Choose.{by_start, first_read, second_read}

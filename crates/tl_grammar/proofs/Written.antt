@@ -1,10 +1,10 @@
 -- The columns and the key of CREATE TABLE, as they are written.
-use Rattle.std.proofs.Common.{◌≡◌, ◌↔◌, ℕ, ◌⊎◌, inl, inr, List, [], ◌∷◌, Option, Some, None, refl, sym, subst, ap, ◌∙◌}
+use Rattle.std.proofs.Common.{◌≡◌, ◌↔◌, inl, inr, List, [], ◌∷◌, Option, Some, None, refl, sym, subst, ap, ◌∙◌}
 use Rattle.tl_grammar.specs.declared.name.Name.{Name}
 use Rattle.tl_grammar.specs.declared.statement.ColumnForm.{ColumnForm}
 use Rattle.tl_grammar.specs.Token.{Token}
-use Rattle.tl_grammar.specs.Form.{Form, IsRow, ◌>>=◌, pure, row}
-use Rattle.tl_grammar.specs.Grammar.{Column, Entry, Key, behind, column_entry, column_form, comma, entries, entry, key_entry, list, names, optional, primary_key, with_entry}
+use Rattle.tl_grammar.specs.Form.{IsRow, ◌>>=◌, pure, row}
+use Rattle.tl_grammar.specs.Grammar.{Column, Entry, Key, behind, column_entry, column_form, comma, entries, entry, key_entry, list, names, optional, with_entry}
 use Rattle.tl_grammar.specs.Law.{table_key, written_entries}
 
 abbrev Made : Type 0

@@ -1,5 +1,5 @@
 -- The grammar, rule by rule: above each form is the rule that it is.
-use Rattle.std.specs.Prelude.{ℕ, zero, suc, ◌+◌, ◌-◌, Bool, true, false, List, [], ◌∷◌, ◌++◌, length, drop, Option, Some, None, Result, Ok}
+use Rattle.std.specs.Prelude.{ℕ, zero, suc, ◌-◌, Bool, true, false, List, [], ◌∷◌, ◌++◌, length, drop, Option, Some, None, Result, Ok}
 use Rattle.tl_values.specs.declared.value.Comparison.{Comparison}
 use Rattle.tl_values.specs.declared.value.Kind.{Kind}
 use Rattle.tl_values.specs.declared.value.Value.{Value}
