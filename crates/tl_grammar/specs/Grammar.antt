@@ -1,4 +1,4 @@
--- The grammar, rule by rule: above each form is the rule that it is.
+-- The grammar, rule by rule: above each form is the rule that it is. Alternatives that begin alike share their front.
 use Rattle.std.specs.Prelude.{ℕ, zero, suc, ◌-◌, Bool, true, false, List, [], ◌∷◌, ◌++◌, length, drop, Option, Some, None, Result, Ok}
 use Rattle.tl_values.specs.declared.value.Comparison.{Comparison}
 use Rattle.tl_values.specs.declared.value.Kind.{Kind}
@@ -254,7 +254,7 @@ unfoldable pub nested : ℕ → Form Cond
 nested zero = either (too_deep (λ t. some (word_kind w.Not t.start t.kind)) want.Word) (too_deep (λ t. some (sign_kind s.Open t.start t.kind)) want.Sign)
 nested (suc d) = either (negated (nested d)) (in_brackets (cond_form (nested d)))
 
--- [WHERE cond]
+-- WHERE cond
 unfoldable pub where_form : ℕ → Form Cond
 where_form d = do
   at ← word w.Where
