@@ -1,0 +1,16 @@
+pub mod Alive
+pub mod Choose
+pub mod Combine
+pub mod Deeper
+pub mod Depth
+pub mod Exact
+pub mod Examples
+pub mod Forms
+pub mod Leaves
+pub mod Placed
+pub mod RowLaw
+pub mod Rows
+pub mod Rules
+pub mod Sets
+pub mod Theorem
+pub mod Written
