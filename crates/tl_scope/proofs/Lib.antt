@@ -1,1 +1,5 @@
-
+pub mod Chains
+pub mod Faults
+pub mod Founds
+pub mod Repeated
+pub mod Scopes

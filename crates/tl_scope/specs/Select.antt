@@ -134,15 +134,16 @@ abbrev pub printed : List Source → Option (List SelectItem) → ℕ
 printed scope None = width scope
 printed scope (Some items) = length items
 
--- the faults of a SELECT over this scope
-abbrev pub faults_over : Catalog → List Source → Option (List SelectItem) → List FromItem → Option Cond → List ColumnName → List OrderItem → List BindFault
-faults_over catalog scope items from filter group order =
+-- of what stands before and behind the FROM items
+abbrev pub shown_faults : List Source → Option (List SelectItem) → Option Cond → List ColumnName → List OrderItem → List BindFault
+shown_faults scope items filter group order =
     items_faults scope group (is_grouped items group) items
-    ++ each_from (from_faults catalog scope) 0 from
-    ++ repeated_faults (map called from)
     ++ filter_faults scope filter
     ++ flat_map (column_faults scope) group
     ++ flat_map (order_faults scope (grouping scope group) (is_grouped items group) (printed scope items)) order
 
 abbrev pub select_faults : Catalog → Option (List SelectItem) → List FromItem → Option Cond → List ColumnName → List OrderItem → List BindFault
-select_faults catalog items from filter group order = faults_over catalog (scope_of catalog from) items from filter group order
+select_faults catalog items from filter group order =
+    each_from (from_faults catalog (scope_of catalog from)) 0 from
+    ++ repeated_faults (map called from)
+    ++ shown_faults (scope_of catalog from) items filter group order

@@ -1,10 +1,15 @@
 //! What the names of a statement mean, and every fault of a statement, with the first of them.
 #![tactic(auto)]
 
+mod condition;
+mod expression;
 mod fault;
 mod found;
+mod names;
 mod scope;
+mod select;
 
 pub use fault::{BindFault, BindKind};
 pub use found::{Found, Spot};
-pub use scope::Scope;
+pub use scope::{Scope, Source};
+pub use select::select_fault;
