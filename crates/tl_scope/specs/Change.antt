@@ -57,10 +57,14 @@ tuple_faults columns named t =
 abbrev pub insert_faults : List Column → Option (List Name) → List Tuple → List BindFault
 insert_faults columns named tuples = named_faults columns named ++ flat_map (tuple_faults columns named) tuples
 
+-- a column of the primary key
+abbrev pub is_in_key : List ℕ → ℕ → Bool
+is_in_key key place = list_any (λ k. k == place) key
+
 -- a column that is set: it is there, and not of the primary key
 abbrev pub set_place_faults : Table → ℕ → Option ℕ → List BindFault
 set_place_faults table at None = record { at = at; kind = kind.UnknownColumn } ∷ []
-set_place_faults table at (Some place) = fault_if (list_any (λ k. k == place) table.key) at kind.KeyChange
+set_place_faults table at (Some place) = fault_if (is_in_key table.key place) at kind.KeyChange
 
 -- of an item of SET: its value is of the type of its column
 abbrev pub set_faults : Table → SetItem → List BindFault
@@ -79,8 +83,3 @@ update_faults table sets filter = flat_map (set_faults table) sets ++ repeated_f
 -- a DELETE from the table
 abbrev pub delete_faults : Table → Option Cond → List BindFault
 delete_faults table filter = filter_faults (scope_in table) filter
-
--- where the table isn't there, nothing else is looked at
-abbrev pub in_table : Option Table → Name → (Table → List BindFault) → List BindFault
-in_table None name faults = record { at = name.at; kind = kind.UnknownTable } ∷ []
-in_table (Some t) name faults = faults t

@@ -10,7 +10,7 @@ use Rattle.tl_scope.specs.declared.fault.BindKind.TheVariants as kind
 use Rattle.tl_scope.specs.declared.fault.BindFault.{BindFault}
 use Rattle.tl_scope.specs.Fault.{each_from, fault_if}
 use Rattle.tl_scope.specs.Named.{columns_faults, is_among, is_none, repeated_faults}
-use Rattle.tl_scope.specs.Scope.{same, table_named}
+use Rattle.tl_scope.specs.Scope.{in_table, same, table_named}
 
 -- one, where there is a key behind the columns
 abbrev pub keys_behind : Option (List Name) → ℕ
@@ -63,11 +63,10 @@ has_index name t = list_any (λ (i : Index). same i.name name) t.indexes
 abbrev pub is_index : Catalog → List ℕ → Bool
 is_index catalog name = list_any (has_index name) catalog.tables
 
--- of an index on a table, which has 8 at most
-abbrev pub index_faults : Option Table → Name → Name → List Name → List BindFault
-index_faults None name table columns = record { at = table.at; kind = kind.UnknownTable } ∷ []
-index_faults (Some t) name table columns = fault_if (nat_lt 7 (length t.indexes)) name.at kind.TooMany ++ columns_faults t.columns columns
+-- of a new index on a table, which has 8 at most
+abbrev pub new_index_faults : Table → Name → List Name → List BindFault
+new_index_faults t name columns = fault_if (nat_lt 7 (length t.indexes)) name.at kind.TooMany ++ columns_faults t.columns columns
 
 abbrev pub create_index_faults : Catalog → Name → Name → List Name → List BindFault
 create_index_faults catalog name table columns =
-    fault_if (is_index catalog name.text) name.at kind.Twice ++ index_faults (table_named catalog table.text) name table columns
+    fault_if (is_index catalog name.text) name.at kind.Twice ++ in_table (table_named catalog table.text) table (λ (t : Table). new_index_faults t name columns)

@@ -119,3 +119,11 @@ kind_of NoTable = None
 kind_of NoColumn = None
 kind_of (One spot) = Some spot.kind
 kind_of Several = None
+
+abbrev pub unknown_table : Name → BindFault
+unknown_table name = record { at = name.at; kind = kind.UnknownTable }
+
+-- the faults in the table of this name; where it isn't there, nothing else is looked at
+abbrev pub in_table : Option Table → Name → (Table → List BindFault) → List BindFault
+in_table None name faults = unknown_table name ∷ []
+in_table (Some t) name faults = faults t

@@ -6,10 +6,10 @@ use Rattle.tl_schema.specs.declared.catalog.Table.{Table}
 use Rattle.tl_grammar.specs.declared.statement.Statement.{Statement}
 use Rattle.tl_grammar.specs.declared.statement.Statement.TheVariants as statement
 use Rattle.tl_scope.specs.declared.fault.BindFault.{BindFault}
-use Rattle.tl_scope.specs.Change.{delete_faults, in_table, insert_faults, update_faults}
+use Rattle.tl_scope.specs.Change.{delete_faults, insert_faults, update_faults}
 use Rattle.tl_scope.specs.Create.{create_index_faults, create_table_faults}
 use Rattle.tl_scope.specs.Fault.{weight}
-use Rattle.tl_scope.specs.Scope.{table_named}
+use Rattle.tl_scope.specs.Scope.{in_table, table_named}
 use Rattle.tl_scope.specs.Select.{select_faults}
 
 -- every fault of the statement

@@ -3,7 +3,7 @@
 ghost use Rattle.std.specs.Prelude.{◌≡◌, [], ◌∷◌, ◌++◌, Option, Some, None, position, slice_get, find, length, map, IfOk, OnOk};
 ghost use Rattle.std.specs.Option.{option_copied};
 ghost use Rattle.tl_scope.specs.Fault.{least};
-ghost use Rattle.tl_scope.specs.Scope.{also, called, column_at, column_faults, column_found, column_place, columns_named, in_source, in_source_called, in_sources, kind_of, same, scope_in, scope_of, source_of, table_named};
+ghost use Rattle.tl_scope.specs.Scope.{also, called, column_at, column_faults, column_found, column_place, columns_named, in_source, in_source_called, in_sources, kind_of, same, scope_in, scope_of, source_of, table_named, unknown_table};
 
 use crate::fault::{BindFault, BindKind};
 use crate::found::{Found, Spot};
@@ -244,5 +244,15 @@ pub fn kind_of(found: Found) -> Option<Kind>
     match found {
         Found::One(spot) => Some(spot.kind),
         Found::NoTable | Found::NoColumn | Found::Several => None,
+    }
+}
+
+/// The fault of the name of a table that isn't there.
+pub fn unknown_table(name: &Name) -> BindFault
+    ensures { result ≡ unknown_table name.now }
+{
+    BindFault {
+        at: name.at,
+        kind: BindKind::UnknownTable,
     }
 }
