@@ -3,3 +3,4 @@ pub mod Faults
 pub mod Founds
 pub mod Repeated
 pub mod Scopes
+pub mod Sets

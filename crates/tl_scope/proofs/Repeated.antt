@@ -12,10 +12,10 @@ use Rattle.tl_scope.proofs.Faults.{earliest_assoc, least_append}
 same_before : (s t : List (List ℕ)) (ns : List Name) → ((x : List ℕ) → is_among s x ≡ is_among t x) → repeated_after s ns ≡ repeated_after t ns
 same_before s t [] h = refl
 same_before s t (n ∷ ns) h =
-    rw (h n.text) (ap (λ (l : List BindFault). fault_if (is_among t n.text) n.at kind.Twice ++ l) (same_before (n.text ∷ s) (n.text ∷ t) ns (λ x. ap (λ (b : Bool). same n.text x || b) (h x))))
+    rw (h n.text) (ap (λ (l : List BindFault). fault_if (is_among t n.text) n.at kind.Twice ++ l) (same_before (n.text ∷ s) (n.text ∷ t) ns (λ x. ap (λ (b : Bool). same x n.text || b) (h x))))
 
 -- one name more
-pub name_taken : (a b : Option BindFault) (seen now : List (List ℕ)) (n : Name) → ((x : List ℕ) → is_among now x ≡ (same n.text x || is_among seen x)) →
+pub name_taken : (a b : Option BindFault) (seen now : List (List ℕ)) (n : Name) → ((x : List ℕ) → is_among now x ≡ (same x n.text || is_among seen x)) →
     b ≡ earliest a (least (fault_if (is_among seen n.text) n.at kind.Twice)) → (more : List Name) →
     earliest b (least (repeated_after now more)) ≡ earliest a (least (repeated_after seen (n ∷ more)))
 name_taken a b seen now n h was more =

@@ -14,7 +14,7 @@ is_none (Some x) = false
 
 -- one of these names
 abbrev pub is_among : List (List ℕ) → List ℕ → Bool
-is_among names name = list_any (λ n. same n name) names
+is_among names name = list_any (same name) names
 
 -- names that stand before these, or earlier among them
 abbrev pub repeated_after : List (List ℕ) → List Name → List BindFault

@@ -9,15 +9,16 @@ ghost use Rattle.tl_scope.specs.Scope.{same};
 use crate::fault::{BindFault, BindKind, earliest, fault_if};
 use crate::scope::column_place;
 use std::alloc::Global;
+use std::collections::BTreeSet;
 use std::marker::Model;
-use tl_base::{Duplicate, Items, NoMemory, Text};
+use tl_base::{Duplicate, NoMemory, Text};
 use tl_grammar::Name;
 use tl_schema::Column;
 
 /// A set of names.
 #[derive(Drop)]
 pub struct Names {
-    names: Items<Text>,
+    names: BTreeSet<Text>,
 }
 
 impl Model for Names {
@@ -25,7 +26,7 @@ impl Model for Names {
 
     ghost Value = { List (List ℕ) };
 
-    ghost view = { λ s. s.names };
+    ghost view = { λ s. s.names.keys };
 }
 
 impl Names {
@@ -33,20 +34,23 @@ impl Names {
         ensures { result ≡ [] }
     {
         Names {
-            names: Items::new(alloc),
+            names: BTreeSet::new(alloc),
         }
     }
 
+    #[tactic(auto, using(crate::proofs::Sets::among_keys))]
     pub fn contains(&self, name: &Text) -> bool
         ensures { result ≡ is_among self.now name.now }
     {
-        self.names.as_slice().iter().any(|n| *n == *name)
+        self.names.contains(name)
     }
 
+    #[tactic(auto, using(crate::proofs::Sets::among_keys))]
     pub fn insert(&mut self, name: &Text) -> Result<(), NoMemory>
-        ensures { OnOk result ((other : _) → is_among self.new other ≡ (same name.now other || is_among self.old other)) }
+        ensures { OnOk result ((other : _) → is_among self.new other ≡ (same other name.now || is_among self.old other)) }
     {
-        self.names.push(name.copy()?)
+        self.names.insert(name.copy()?)?;
+        Ok(())
     }
 }
 
