@@ -1,0 +1,6 @@
+pub mod Chains
+pub mod Faults
+pub mod Founds
+pub mod Repeated
+pub mod Scopes
+pub mod Sets

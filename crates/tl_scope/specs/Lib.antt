@@ -1,0 +1,9 @@
+pub mod Change
+pub mod Condition
+pub mod Create
+pub mod Expression
+pub mod Fault
+pub mod Named
+pub mod Scope
+pub mod Select
+pub mod Statement
