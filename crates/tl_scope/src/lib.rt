@@ -14,5 +14,6 @@ mod statement;
 
 pub use fault::{BindFault, BindKind};
 pub use found::{Found, Spot};
-pub use scope::{Scope, Source};
+pub use names::Names;
+pub use scope::{Scope, Source, column_place, push_item, scope_in, scope_of, table_named};
 pub use statement::statement_fault;

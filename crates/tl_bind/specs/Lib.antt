@@ -1,0 +1,5 @@
+pub mod Change
+pub mod Condition
+pub mod Expression
+pub mod Place
+pub mod Select
