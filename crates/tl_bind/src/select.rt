@@ -99,11 +99,7 @@ fn table_place(catalog: &Catalog, name: &Text) -> Option<usize>
         .position(|table| table.name == *name)
 }
 
-fn group_of(
-    alloc: Global,
-    scope: &Scope<'_>,
-    group: &[ColumnName],
-) -> Result<Items<u8>, NoMemory>
+fn group_of(alloc: Global, scope: &Scope<'_>, group: &[ColumnName]) -> Result<Items<u8>, NoMemory>
     requires { length (columns_in scope.now) ≤ 256 }
     ensures { IfOk result (λ places. places ≡ map (place_of scope.now) group.now) }
 {
@@ -170,11 +166,7 @@ fn all_columns(alloc: Global, count: usize) -> Result<Items<Output>, NoMemory>
     Ok(outputs)
 }
 
-fn sorts_of(
-    alloc: Global,
-    scope: &Scope<'_>,
-    order: &[OrderItem],
-) -> Result<Items<Sort>, NoMemory>
+fn sorts_of(alloc: Global, scope: &Scope<'_>, order: &[OrderItem]) -> Result<Items<Sort>, NoMemory>
     requires { length (columns_in scope.now) ≤ 256 }
     ensures { IfOk result (λ sorts. sorts ≡ map (sort_of scope.now) order.now) }
 {

@@ -25,5 +25,5 @@ among_more before now name key other e updates =
     among_keys now other
     ∙ updates
     ∙ chosen (is_eq (slice_cmp nat_cmp key other)) (same other name) (list_any (λ k. is_eq (slice_cmp nat_cmp other k)) before)
-        (sym (texts_ties key other) ∙ same_turned key other ∙ ap (same other) e)
+    (sym (texts_ties key other) ∙ same_turned key other ∙ ap (same other) e)
     ∙ ap (λ (b : Bool). same other name || b) (sym (among_keys before other))

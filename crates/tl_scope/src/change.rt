@@ -60,11 +60,7 @@ fn tuples_fault(
 }
 
 #[tactic(auto, using(crate::proofs::Faults::least_append))]
-fn tuple_fault(
-    columns: &[Column],
-    named: &Option<Items<Name>>,
-    tuple: &Tuple,
-) -> Option<BindFault>
+fn tuple_fault(columns: &[Column], named: &Option<Items<Name>>, tuple: &Tuple) -> Option<BindFault>
     ensures { result ≡ least (tuple_faults columns.now named.now tuple.now) }
 {
     let wrong = tuple.values.len() != width_of(columns, named);
@@ -183,10 +179,7 @@ fn set_fault(table: &Table, scope: &Scope<'_>, set: &SetItem) -> Option<BindFaul
 {
     let columns = table.columns.as_slice();
     let place = column_place(columns, &set.column.text);
-    let wrong = differ(
-        expression_kind(scope, &set.value),
-        kind_at(columns, place),
-    );
+    let wrong = differ(expression_kind(scope, &set.value), kind_at(columns, place));
     let fault = earliest(
         set_place_fault(table, set.column.at, place),
         fault_if(wrong, set.column.at, BindKind::WrongType),

@@ -159,11 +159,7 @@ pub fn create_index_fault(
 ) -> Result<Option<BindFault>, NoMemory>
     ensures { IfOk result (λ fault. fault ≡ least (create_index_faults catalog.now name.now table.now columns.now)) }
 {
-    let twice = fault_if(
-        is_index(catalog, &name.text),
-        name.at,
-        BindKind::Twice,
-    );
+    let twice = fault_if(is_index(catalog, &name.text), name.at, BindKind::Twice);
     let fault = match table_named(catalog, &table.text) {
         Some(table) => index_fault(alloc, table, name, columns)?,
         None => Some(unknown_table(table)),

@@ -74,11 +74,7 @@ impl Repeats {
     pub fn take(&mut self, name: &Name) -> Result<(), NoMemory>
         ensures { OnOk result ((more : List Name) → earliest self.new.fault (least (repeated_after self.new.seen more)) ≡ earliest self.old.fault (least (repeated_after self.old.seen (name.now ∷ more)))) }
     {
-        let again = fault_if(
-            self.seen.contains(&name.text),
-            name.at,
-            BindKind::Twice,
-        );
+        let again = fault_if(self.seen.contains(&name.text), name.at, BindKind::Twice);
         self.seen.insert(&name.text)?;
         self.fault = earliest(self.fault, again);
         Ok(())

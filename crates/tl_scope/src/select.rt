@@ -13,7 +13,9 @@ use crate::expression::expression_fault;
 use crate::fault::{BindFault, BindKind, earliest, fault_if};
 use crate::found::{Found, Spot};
 use crate::names::Repeats;
-use crate::scope::{Scope, called, column_at, column_fault, kind_of, push_item, scope_of, table_named};
+use crate::scope::{
+    Scope, called, column_at, column_fault, kind_of, push_item, scope_of, table_named,
+};
 use std::alloc::Global;
 use tl_base::{Items, NoMemory, Text};
 use tl_grammar::{
@@ -269,7 +271,10 @@ fn orders_fault(
 {
     let mut fault = None;
     for item in order {
-        fault = earliest(fault, order_fault(scope, columns, grouped, printed, &item.by));
+        fault = earliest(
+            fault,
+            order_fault(scope, columns, grouped, printed, &item.by),
+        );
     }
     fault
 }

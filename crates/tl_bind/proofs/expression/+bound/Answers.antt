@@ -15,7 +15,7 @@ pub bound_expression-returns-in_ok-rest-in-Chain-clause-same :
 bound_expression-returns-in_ok-rest-in-Chain-clause-same t c =
     let scope = c.args.scope.now in
     ap (λ (e : Expression). bound.Chain e c.in_ok-rest-in-Chain.rest)
-        (c.in_ok-first-in-Chain-2.ensures ∙ c.in_ok-first-in-Chain.ensures.same ∙ ap (bound_expression scope) c.get.ensures)
+    (c.in_ok-first-in-Chain-2.ensures ∙ c.in_ok-first-in-Chain.ensures.same ∙ ap (bound_expression scope) c.get.ensures)
     ∙ ap (λ (steps : List (Step Expression)). bound.Chain (bound_expression scope c.in-Chain.first) steps) c.in_ok-rest-in-Chain.ensures.same
     ∙ sym (bound_of_chain scope c.args.expression.now c.in-Chain.first c.in-Chain.rest c.in-Chain.is)
 
@@ -24,5 +24,5 @@ pub bound_expression-returns-in_ok-rest-in-Chain-clause-values :
 bound_expression-returns-in_ok-rest-in-Chain-clause-values t c =
     subst AreValues (sym (values_of_chain c.args.expression.now c.in-Chain.first c.in-Chain.rest c.in-Chain.is))
     (values_append (values_in c.in-Chain.first) (step_values (map values_of_step c.in-Chain.rest))
-        (subst (λ (e : Expr). AreValues (values_in e)) c.get.ensures c.in_ok-first-in-Chain.ensures.values)
-        c.in_ok-rest-in-Chain.ensures.values)
+    (subst (λ (e : Expr). AreValues (values_in e)) c.get.ensures c.in_ok-first-in-Chain.ensures.values)
+    c.in_ok-rest-in-Chain.ensures.values)

@@ -18,7 +18,6 @@ steps_fault-loop-step-preserved t c =
 
 pub sum_fault-returns-in-Chain : goal.sum_fault-returns-in-Chain
 sum_fault-returns-in-Chain t c =
-    
     let scope = c.args.scope.now in
     joined c.earliest.result c.sum_fault-fault.result c.steps_fault.result (sum_faults scope c.in-Chain.first) (step_faults (map (step_sum scope) c.in-Chain.rest)) c.earliest.ensures
     (c.sum_fault-fault.ensures ∙ ap (λ (e : Expr). least (sum_faults scope e)) c.get.ensures) c.steps_fault.ensures

@@ -21,7 +21,7 @@ loop-i-preserved c =
       scope = whole;
       length = longer;
       fault =
-        loop_indexed (from_faults catalog (scope_of catalog from)) l.fault c.earliest-fault.result from l.i item c.loop-i-test.true c.index-from-i.is
-        (c.earliest-fault.ensures ∙ ap (earliest l.fault) (c.from_item_fault.ensures (scope_of catalog from) there))
-        ∙ l.invariant.fault;
+          loop_indexed (from_faults catalog (scope_of catalog from)) l.fault c.earliest-fault.result from l.i item c.loop-i-test.true c.index-from-i.is
+          (c.earliest-fault.ensures ∙ ap (earliest l.fault) (c.from_item_fault.ensures (scope_of catalog from) there))
+          ∙ l.invariant.fault;
     }

@@ -1,0 +1,9 @@
+//! Statements bound to a catalog: names by places, or the first fault.
+#![tactic(auto)]
+
+mod error;
+mod statement;
+
+pub use error::BindError;
+pub use statement::bind;
+pub use tl_scope::{BindFault, BindKind};
