@@ -1,10 +1,9 @@
 -- Statements without faults are over few columns.
-use Rattle.std.proofs.Common.{◌≡◌, ℕ, zero, suc, ◌+◌, ◌*◌, ◌≤◌, Bool, true, false, List, [], ◌∷◌, ◌++◌, length, map, take, Option, Some, None, find, refl, ap, sym, subst, arith, length-append}
-use Rattle.std.specs.Prelude.{nat_lt, flat_map, not, slice_get}
+use Rattle.std.proofs.Common.{◌≡◌, ℕ, zero, suc, ◌+◌, ◌*◌, ◌≤◌, false, List, [], ◌∷◌, ◌++◌, length, map, take, Option, Some, None, refl, subst, arith, length-append}
+use Rattle.std.specs.Prelude.{nat_lt, not, slice_get}
 use Rattle.std.specs.List.{AllByRecursion}
 use Rattle.tl_lemmas.proofs.Lists.{found}
 use Rattle.tl_schema.specs.declared.catalog.Catalog.{Catalog}
-use Rattle.tl_schema.specs.declared.catalog.Column.{Column}
 use Rattle.tl_schema.specs.declared.catalog.Table.{Table}
 use Rattle.tl_grammar.specs.declared.condition.Cond.{Cond}
 use Rattle.tl_grammar.specs.declared.name.ColumnName.{ColumnName}

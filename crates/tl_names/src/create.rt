@@ -15,11 +15,7 @@ use tl_schema::{Catalog, Column, Index, Table};
 use tl_scope::{column_place, statement_fault};
 
 /// Adds the table or index of a CREATE, or changes nothing where it has a fault.
-pub fn define(
-    alloc: Global,
-    catalog: &mut Catalog,
-    statement: &Statement,
-) -> Result<(), BindError>
+pub fn define(alloc: Global, catalog: &mut Catalog, statement: &Statement) -> Result<(), BindError>
     requires within { IsWithin catalog.old }
     requires statement { is_create statement.now ≡ true }
     ensures { Defines result (statement_faults catalog.old statement.now) catalog.old catalog.new (defined catalog.old statement.now) }

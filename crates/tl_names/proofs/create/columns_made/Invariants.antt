@@ -1,4 +1,4 @@
-use Rattle.std.proofs.Common.{◌≡◌, ◌++◌, drop, map}
+use Rattle.std.proofs.Common.{◌≡◌, ◌++◌, drop}
 use Rattle.tl_names.specs.Define.{columns_made}
 use Rattle.tl_names.proofs.create.columns_made.Given as goal
 

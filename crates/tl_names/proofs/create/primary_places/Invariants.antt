@@ -1,4 +1,4 @@
-use Rattle.std.proofs.Common.{◌≡◌, ◌++◌, drop, map}
+use Rattle.std.proofs.Common.{◌≡◌, ◌++◌, drop}
 use Rattle.tl_names.specs.Define.{primary_from}
 use Rattle.tl_names.proofs.create.primary_places.Given as goal
 
