@@ -1,5 +1,5 @@
 -- INSERT, UPDATE and DELETE by places.
-use Rattle.std.specs.Prelude.{ℕ, ◌+◌, ◌==◌, Bool, true, false, List, [], ◌∷◌, flat_map, map, Option, Some, None, position, slice_get}
+use Rattle.std.specs.Prelude.{ℕ, ◌+◌, ◌==◌, Bool, false, List, [], ◌∷◌, map, Option, Some, None, position, slice_get}
 use Rattle.tl_values.specs.declared.value.Value.{Value}
 use Rattle.tl_values.specs.declared.value.Value.TheVariants as value
 use Rattle.tl_schema.specs.declared.catalog.Column.{Column}

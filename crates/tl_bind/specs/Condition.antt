@@ -1,5 +1,5 @@
 -- Conditions by places.
-use Rattle.std.specs.Prelude.{ℕ, List, [], ◌∷◌, ◌++◌, flat_map, Option, Some, None}
+use Rattle.std.specs.Prelude.{List, [], ◌∷◌, ◌++◌, flat_map, Option, Some, None}
 use Rattle.tl_values.specs.declared.value.Value.{Value}
 use Rattle.tl_algebra.specs.declared.condition.Condition.{Condition}
 use Rattle.tl_algebra.specs.declared.condition.Condition.TheVariants as bound

@@ -1,5 +1,5 @@
 -- Expressions by places.
-use Rattle.std.specs.Prelude.{List, [], ◌∷◌, ◌++◌, flat_map, map}
+use Rattle.std.specs.Prelude.{List, ◌++◌, flat_map, map}
 use Rattle.tl_values.specs.declared.value.Value.{Value}
 use Rattle.tl_algebra.specs.declared.expression.Expression.{Expression}
 use Rattle.tl_algebra.specs.declared.expression.Expression.TheVariants as bound

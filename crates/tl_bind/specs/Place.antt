@@ -1,5 +1,5 @@
 -- The places of columns: through the columns of all FROM items, one item after the other.
-use Rattle.std.specs.Prelude.{ℕ, ◌+◌, ◌-◌, ◌==◌, List, [], ◌∷◌, ◌++◌, flat_map, length, if◌then◌else◌}
+use Rattle.std.specs.Prelude.{ℕ, ◌+◌, ◌-◌, ◌==◌, List, [], ◌∷◌, ◌++◌, length, if◌then◌else◌}
 use Rattle.tl_schema.specs.declared.catalog.Column.{Column}
 use Rattle.tl_grammar.specs.declared.name.ColumnName.{ColumnName}
 use Rattle.tl_scope.specs.declared.found.Found.{Found}

@@ -1,6 +1,5 @@
 -- A SELECT by places.
-use Rattle.std.specs.Prelude.{ℕ, zero, suc, ◌+◌, ◌-◌, ◌^◌, List, [], ◌∷◌, flat_map, length, map, Option, Some, None, min, position, take}
-use Rattle.tl_values.specs.declared.value.Value.{Value}
+use Rattle.std.specs.Prelude.{ℕ, zero, suc, ◌+◌, ◌-◌, ◌^◌, List, [], ◌∷◌, length, map, Option, Some, None, min, position, take}
 use Rattle.tl_schema.specs.declared.catalog.Catalog.{Catalog}
 use Rattle.tl_schema.specs.declared.catalog.Table.{Table}
 use Rattle.tl_algebra.specs.declared.expression.Expression.TheVariants as bound

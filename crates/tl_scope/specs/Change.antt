@@ -2,7 +2,6 @@
 use Rattle.std.specs.Prelude.{ℕ, ◌==◌, Bool, not, List, [], ◌∷◌, ◌++◌, flat_map, length, map, Option, Some, None, slice_get}
 use Rattle.std.specs.List.{list_any}
 use Rattle.tl_values.specs.declared.value.Kind.{Kind}
-use Rattle.tl_schema.specs.declared.catalog.Catalog.{Catalog}
 use Rattle.tl_schema.specs.declared.catalog.Column.{Column}
 use Rattle.tl_schema.specs.declared.catalog.Table.{Table}
 use Rattle.tl_grammar.specs.declared.condition.Cond.{Cond}
@@ -16,7 +15,7 @@ use Rattle.tl_scope.specs.Condition.{differ, filter_faults, value_kind}
 use Rattle.tl_scope.specs.Expression.{expression_faults, expression_kind}
 use Rattle.tl_scope.specs.Fault.{each_from, fault_if}
 use Rattle.tl_scope.specs.Named.{columns_faults, repeated_faults}
-use Rattle.tl_scope.specs.Scope.{column_place, scope_in, table_named}
+use Rattle.tl_scope.specs.Scope.{column_place, scope_in}
 
 -- the columns that INSERT names, where it names any
 abbrev pub named_faults : List Column → Option (List Name) → List BindFault

@@ -8,13 +8,8 @@ use Rattle.tl_grammar.specs.declared.condition.Cond.{Cond}
 use Rattle.tl_grammar.specs.declared.condition.Cond.TheOpen.{Cond-F}
 use Rattle.tl_grammar.specs.declared.condition.Cond.TheOpen as layer
 use Rattle.tl_grammar.specs.declared.condition.Cond.TheFolds.{fold-Cond}
-use Rattle.tl_grammar.specs.declared.expression.Expr.{Expr, out-Expr}
-use Rattle.tl_grammar.specs.declared.expression.Expr.TheOpen.{Expr-F}
-use Rattle.tl_grammar.specs.declared.expression.Expr.TheOpen as part
-use Rattle.tl_grammar.specs.declared.expression.Expr.TheFolds.{fold-Expr}
 use Rattle.tl_grammar.specs.declared.operand.Operand.{Operand}
 use Rattle.tl_grammar.specs.declared.operand.Operand.TheVariants.{Column, Literal}
-use Rattle.tl_grammar.specs.declared.expression.Step.{Step}
 use Rattle.tl_scope.specs.declared.fault.BindKind.TheVariants as kind
 use Rattle.tl_scope.specs.declared.fault.BindFault.{BindFault}
 use Rattle.tl_scope.specs.Fault.{fault_if}

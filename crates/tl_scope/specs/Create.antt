@@ -1,5 +1,5 @@
 -- The faults of CREATE TABLE and CREATE INDEX.
-use Rattle.std.specs.Prelude.{ℕ, ◌+◌, ◌==◌, Bool, not, List, [], ◌∷◌, ◌++◌, filter, flat_map, length, map, Option, Some, None, nat_lt}
+use Rattle.std.specs.Prelude.{ℕ, ◌+◌, ◌==◌, Bool, not, List, [], ◌++◌, filter, flat_map, length, map, Option, Some, None, nat_lt}
 use Rattle.std.specs.List.{list_any}
 use Rattle.tl_schema.specs.declared.catalog.Catalog.{Catalog}
 use Rattle.tl_schema.specs.declared.catalog.Index.{Index}

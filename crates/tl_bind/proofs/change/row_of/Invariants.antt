@@ -1,4 +1,4 @@
-use Rattle.std.proofs.Common.{◌≡◌, ◌++◌, drop, map}
+use Rattle.std.proofs.Common.{◌≡◌, ◌++◌, drop}
 use Rattle.tl_bind.specs.Change.{row_from}
 use Rattle.tl_bind.proofs.change.row_of.Given as goal
 

@@ -1,11 +1,10 @@
-use Rattle.std.proofs.Common.{List, ◌++◌, map, ap, sym, subst, ◌∙◌}
-use Rattle.tl_values.specs.declared.value.Value.{Value}
+use Rattle.std.proofs.Common.{List, map, ap, sym, subst, ◌∙◌}
 use Rattle.tl_values.specs.Key.{AreValues}
 use Rattle.tl_algebra.specs.declared.expression.Expression.{Expression}
 use Rattle.tl_algebra.specs.declared.expression.Expression.TheVariants as bound
 use Rattle.tl_algebra.specs.declared.expression.Step.{Step}
 use Rattle.tl_grammar.specs.declared.expression.Expr.{Expr}
-use Rattle.tl_bind.specs.Expression.{bound_expression, bound_step, step_values, values_in, values_of_step}
+use Rattle.tl_bind.specs.Expression.{bound_expression, step_values, values_in, values_of_step}
 use Rattle.tl_bind.proofs.Chains.{bound_of_chain, values_of_chain}
 use Rattle.tl_bind.proofs.Values.{values_append}
 use Rattle.tl_bind.proofs.expression.+bound.Goals as goal

@@ -1,4 +1,4 @@
-use Rattle.std.proofs.Common.{◌≡◌, ◌++◌, drop, map}
+use Rattle.std.proofs.Common.{◌≡◌, ◌++◌}
 use Rattle.std.proofs.Common.{◌-◌}
 use Rattle.tl_bind.specs.Select.{columns_from}
 use Rattle.tl_bind.proofs.select.all_columns.Given as goal
