@@ -11,7 +11,7 @@ use Rattle.tl_schema.specs.declared.catalog.Catalog.{Catalog}
 use Rattle.tl_versions.specs.Versions.{is_written, stranger, strip}
 use Rattle.tl_write.specs.declared.write.Write.{Write}
 use Rattle.tl_protocol.specs.Store.{Cell}
-use Rattle.tl_journal.specs.Ask.{Heard, AskManager, LoadRecord, StoreLog, StoreRecord, Record, Strange}
+use Rattle.tl_journal.specs.Ask.{Heard, AskManager, LoadRecord, StoreLog, StoreRecord, Record, Stored, Moved, Strange}
 use Rattle.tl_journal.specs.Bytes.{home_of}
 use Rattle.tl_ask.specs.Hears.{hears_record, hears_store, store_or_strange}
 use Rattle.tl_ask.specs.declared.heard.StoreOutcome.{StoreOutcome}
@@ -78,18 +78,12 @@ clashes s w o cell rival e odd free = rw (e, odd, free) refl
 pub not_loaded : (s : Storing) (w : Option Write) (o : Write) → w ≡ Some o → takes_storing s false w Strange ≡ strange
 not_loaded s w o e = rw e refl
 
-pub is_stored : (s : Storing) (w : Option Write) (o : Write) (told : Option StoreOutcome) (one : StoreOutcome) (stamp : ℕ)
-    → told ≡ Some one → one ≡ outcome.Stored stamp → w ≡ Some o
-    → takes_storing s true w (store_or_strange told) ≡ storing (record s { stored = s.stored + 1; loaded = false }) mark.Quiet
-is_stored s w o None one stamp e f g = absurd cc
-is_stored s w o (Some outcome.Moved) one stamp e f g = absurd cc
-is_stored s w o (Some (outcome.Stored at)) one stamp e f g = rw g refl
+pub is_stored : (s : Storing) (w : Option Write) (o : Write) (stamp : ℕ) → w ≡ Some o
+    → takes_storing s true w (Stored stamp) ≡ storing (record s { stored = s.stored + 1; loaded = false }) mark.Quiet
+is_stored s w o stamp e = rw e refl
 
-pub has_moved : (s : Storing) (w : Option Write) (o : Write) (told : Option StoreOutcome) (one : StoreOutcome) → told ≡ Some one → one ≡ outcome.Moved
-    → w ≡ Some o → takes_storing s true w (store_or_strange told) ≡ storing (record s { loaded = false }) mark.Quiet
-has_moved s w o None one e f g = absurd cc
-has_moved s w o (Some outcome.Moved) one e f g = rw g refl
-has_moved s w o (Some (outcome.Stored at)) one e f g = absurd cc
+pub has_moved : (s : Storing) (w : Option Write) (o : Write) → w ≡ Some o → takes_storing s true w Moved ≡ storing (record s { loaded = false }) mark.Quiet
+has_moved s w o e = rw e refl
 
 pub not_stored : (s : Storing) (w : Option Write) (o : Write) → w ≡ Some o → takes_storing s true w Strange ≡ strange
 not_stored s w o e = rw e refl
@@ -118,18 +112,12 @@ is_loaded r w o cell e = rw e refl
 pub none_loaded : (r : Removing) (w : Option Write) (o : Write) → w ≡ Some o → takes_removing r false w Strange ≡ strange
 none_loaded r w o e = rw e refl
 
-pub is_removed : (r : Removing) (w : Option Write) (o : Write) (told : Option StoreOutcome) (one : StoreOutcome) (stamp : ℕ)
-    → told ≡ Some one → one ≡ outcome.Stored stamp → w ≡ Some o
-    → takes_removing r true w (store_or_strange told) ≡ removing (record r { removed = r.removed + 1; loaded = false }) mark.Quiet
-is_removed r w o None one stamp e f g = absurd cc
-is_removed r w o (Some outcome.Moved) one stamp e f g = absurd cc
-is_removed r w o (Some (outcome.Stored at)) one stamp e f g = rw g refl
+pub is_removed : (r : Removing) (w : Option Write) (o : Write) (stamp : ℕ) → w ≡ Some o
+    → takes_removing r true w (Stored stamp) ≡ removing (record r { removed = r.removed + 1; loaded = false }) mark.Quiet
+is_removed r w o stamp e = rw e refl
 
-pub moved_again : (r : Removing) (w : Option Write) (o : Write) (told : Option StoreOutcome) (one : StoreOutcome) → told ≡ Some one → one ≡ outcome.Moved
-    → w ≡ Some o → takes_removing r true w (store_or_strange told) ≡ removing (record r { loaded = false }) mark.Quiet
-moved_again r w o None one e f g = absurd cc
-moved_again r w o (Some outcome.Moved) one e f g = rw g refl
-moved_again r w o (Some (outcome.Stored at)) one e f g = absurd cc
+pub moved_again : (r : Removing) (w : Option Write) (o : Write) → w ≡ Some o → takes_removing r true w Moved ≡ removing (record r { loaded = false }) mark.Quiet
+moved_again r w o e = rw e refl
 
 pub not_removed : (r : Removing) (w : Option Write) (o : Write) → w ≡ Some o → takes_removing r true w Strange ≡ strange
 not_removed r w o e = rw e refl

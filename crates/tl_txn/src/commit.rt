@@ -180,6 +180,7 @@ fn take_stored(
     ensures { IsTaken layout (takes_storing storing true (slice_get storing.attempt.own storing.stored) (store_or_strange outcome)) result }
 {
     let _few = storing.attempt.len();
+    let _own = storing.attempt.own_within(storing.stored);
     let mut storing = storing;
     storing.loaded = false;
     match outcome {
