@@ -1,4 +1,5 @@
 pub mod Chains
+pub mod Fitting
 pub mod Lists
 pub mod Places
 pub mod Values
