@@ -41,21 +41,21 @@ use Rattle.tl_bind.specs.Place.{columns_in, found_place, place_at}
 use Rattle.tl_bind.proofs.Places.{place_has_kind}
 
 -- of this kind, or of every kind
-abbrev Admits : Option Kind → Kind → Type 0
+abbrev pub Admits : Option Kind → Kind → Type 0
 Admits None k = Unit {0}
 Admits (Some x) k = x ≡ k
 
-same_self : (k : Kind) → kinds.same_kind k k ≡ true
+pub same_self : (k : Kind) → kinds.same_kind k k ≡ true
 same_self type.Int = refl
 same_self type.Text = refl
 same_self type.Bool = refl
 
-column_there : (columns : List Column) (at : ℕ) (k : Kind) → column_kind (slice_get columns at) ≡ Some k → has_column (kinds.same_kind k) columns at ≡ true
+pub column_there : (columns : List Column) (at : ℕ) (k : Kind) → column_kind (slice_get columns at) ≡ Some k → has_column (kinds.same_kind k) columns at ≡ true
 column_there [] at k e = absurd cc
 column_there (c ∷ cs) zero k e = let is : c.kind ≡ k = cc in rw is (same_self k)
 column_there (c ∷ cs) (suc at) k e = column_there cs at k e
 
-literal_gives : (v : Value) (k : Kind) → Admits (value_kind v) k → IsValue v → (is_of_kind k v && is_value v) ≡ true
+pub literal_gives : (v : Value) (k : Kind) → Admits (value_kind v) k → IsValue v → (is_of_kind k v && is_value v) ≡ true
 literal_gives value.Null k a is = refl
 literal_gives (value.Bool b) type.Bool a is = refl
 literal_gives (value.Bool b) type.Int a is = absurd cc
@@ -67,7 +67,7 @@ literal_gives (value.Text t) type.Text a is = is_utf8-from_IsUtf8 t is
 literal_gives (value.Text t) type.Bool a is = absurd cc
 literal_gives (value.Text t) type.Int a is = absurd cc
 
-column_gives : (scope : List Source) (c : ColumnName) (f : Found) (k : Kind) → column_found scope c ≡ f → found_faults c f ≡ [] → Admits (kind_of f) k →
+pub column_gives : (scope : List Source) (c : ColumnName) (f : Found) (k : Kind) → column_found scope c ≡ f → found_faults c f ≡ [] → Admits (kind_of f) k →
     side_gives (columns_in scope) (side.Place (found_place scope f)) k ≡ true
 column_gives scope c NoTable k is e a = absurd cc
 column_gives scope c NoColumn k is e a = absurd cc
@@ -75,12 +75,12 @@ column_gives scope c Several k is e a = absurd cc
 column_gives scope c (One s) k is e a =
     subst (λ (x : Kind). has_column (kinds.same_kind x) (columns_in scope) (place_at s.column scope s.item) ≡ true) a (column_there (columns_in scope) (place_at s.column scope s.item) s.kind (place_has_kind scope c s is))
 
-operand_gives : (scope : List Source) (o : Operand) (k : Kind) → operand_faults scope o ≡ [] → AreValues (operand_values o) → Admits (operand_kind scope o) k →
+pub operand_gives : (scope : List Source) (o : Operand) (k : Kind) → operand_faults scope o ≡ [] → AreValues (operand_values o) → Admits (operand_kind scope o) k →
     side_gives (columns_in scope) (side_of scope o) k ≡ true
 operand_gives scope (operand.Column c) k e vs a = column_gives scope c (column_found scope c) k refl e a
 operand_gives scope (operand.Literal l) k e vs a = literal_gives l.value k a vs.0
 
-any_kind : (p : Kind → Bool) (k : Kind) → p k ≡ true → list_any p every_kind ≡ true
+pub any_kind : (p : Kind → Bool) (k : Kind) → p k ≡ true → list_any p every_kind ≡ true
 any_kind p type.Int e = or_left (p type.Int) (list_any p (type.Text ∷ type.Bool ∷ [])) e
 any_kind p type.Text e = or_right (p type.Int) (list_any p (type.Text ∷ type.Bool ∷ [])) (or_left (p type.Text) (list_any p (type.Bool ∷ [])) e)
 any_kind p type.Bool e = or_right (p type.Int) (list_any p (type.Text ∷ type.Bool ∷ [])) (or_right (p type.Text) (list_any p (type.Bool ∷ [])) (or_left (p type.Bool) false e))
@@ -109,11 +109,11 @@ never_differs (Some type.Int) = refl
 never_differs (Some type.Text) = refl
 never_differs (Some type.Bool) = refl
 
-front : (xs ys : List Value) → AreValues (xs ++ ys) → AreValues xs
+pub front : (xs ys : List Value) → AreValues (xs ++ ys) → AreValues xs
 front [] ys h = tt
 front (x ∷ xs) ys h = (h.0, front xs ys h.1)
 
-back : (xs ys : List Value) → AreValues (xs ++ ys) → AreValues ys
+pub back : (xs ys : List Value) → AreValues (xs ++ ys) → AreValues ys
 back [] ys h = h
 back (x ∷ xs) ys h = back xs ys h.1
 

@@ -1,12 +1,14 @@
 -- One join and one column more.
-use Rattle.std.proofs.Common.{◌≡◌, ℕ, suc, ◌+◌, ◌-◌, ◌<◌, List, [], ◌∷◌, ◌++◌, length, get_or, drop, take, ap, sym, ◌∙◌, arith, append_assoc}
+use Rattle.std.proofs.Common.{◌≡◌, ℕ, suc, ◌+◌, ◌-◌, ◌<◌, List, [], ◌∷◌, ◌++◌, length, get_or, drop, take, ap, sym, subst, ◌∙◌, arith, append_assoc}
+use Rattle.std.specs.List.{AllByRecursion}
+use Rattle.std.proofs.lemmas.List.{take_more}
 use Rattle.tl_schema.specs.declared.catalog.Catalog.{Catalog}
 use Rattle.tl_algebra.specs.declared.expression.Expression.TheVariants as bound
 use Rattle.tl_algebra.specs.declared.query.Join.{Join}
 use Rattle.tl_algebra.specs.declared.query.Output.{Output}
 use Rattle.tl_algebra.specs.declared.query.Output.TheVariants as output
 use Rattle.tl_grammar.specs.declared.select.FromItem.{FromItem}
-use Rattle.tl_lemmas.proofs.Lists.{drop_read}
+use Rattle.tl_lemmas.proofs.Lists.{all_push, drop_read}
 use Rattle.tl_scope.specs.Scope.{Source}
 use Rattle.tl_bind.specs.Condition.{bound_filter}
 use Rattle.tl_bind.specs.Select.{columns_from, joins_from, table_number}
@@ -29,3 +31,6 @@ columns_next at count before now h was =
     ap (λ (os : List Output). os ++ columns_from (at + 1) (count - (at + 1))) was
     ∙ append_assoc before (output.Expression (bound.Place at) ∷ []) (columns_from (at + 1) (count - (at + 1)))
     ∙ ap (λ (n : ℕ). before ++ columns_from at n) (sym one)
+
+pub all_next : {X : Type 0} (P : X → Type 0) (xs : List X) (i : ℕ) (x : X) → i < length xs → x ≡ get_or xs i x → AllByRecursion P (take i xs) → P x → AllByRecursion P (take (i + 1) xs)
+all_next P xs i x h e so_far p = subst (AllByRecursion P) (sym (take_more xs i x h ∙ ap (λ y. take i xs ++ y ∷ []) (sym e))) (all_push P (take i xs) x so_far p)

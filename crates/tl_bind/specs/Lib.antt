@@ -4,3 +4,4 @@ pub mod Expression
 pub mod Law
 pub mod Place
 pub mod Select
+pub mod Values

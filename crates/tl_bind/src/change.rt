@@ -1,10 +1,14 @@
 //! INSERT, UPDATE and DELETE by places.
 
-ghost use Rattle.std.specs.Prelude.{◌≡◌, ◌≤◌, length, map, position, IfOk};
+ghost use Rattle.std.specs.Prelude.{◌≡◌, ◌≤◌, length, map, position, IfOk, OnOk};
+ghost use Rattle.std.specs.List.{AllByRecursion};
+ghost use Rattle.tl_values.specs.Key.{AreValues};
 ghost use Rattle.tl_scope.specs.Scope.{column_place, scope_in};
 ghost use Rattle.tl_bind.specs.Change.{delete_of, insert_of, is_place, row_of, set_of, source, update_of, value_from};
+ghost use Rattle.tl_bind.specs.Condition.{filter_values};
 ghost use Rattle.tl_bind.specs.Place.{columns_in};
 ghost use Rattle.tl_bind.specs.Select.{number_or_zero};
+ghost use Rattle.tl_bind.specs.Values.{LiteralHasValue, SetHasValues, TupleHasValues};
 
 use crate::condition::bound_filter;
 use crate::expression::bound_expression;
@@ -14,7 +18,7 @@ use tl_base::{Duplicate, Items, NoMemory};
 use tl_grammar::{Cond, Literal, Name, SetItem, Tuple};
 use tl_schema::{Column, Table};
 use tl_scope::{Scope, column_place, scope_in};
-use tl_values::{Row, Rows, Value};
+use tl_values::{Row, Rows, Value, prove_value};
 
 /// An INSERT without faults into the table of this number, by places.
 pub fn insert_of(
@@ -24,7 +28,8 @@ pub fn insert_of(
     named: &Option<Items<Name>>,
     tuples: &Items<Tuple>,
 ) -> Result<Edit, NoMemory>
-    ensures { IfOk result (λ edit. edit ≡ insert_of number table.now named.now tuples.now) }
+    ensures same { IfOk result (λ edit. edit ≡ insert_of number table.now named.now tuples.now) }
+    ensures values { OnOk result (AllByRecursion TupleHasValues tuples.now) }
 {
     let rows = rows_of(alloc, table.columns.as_slice(), named, tuples)?;
     Ok(Edit::Insert {
@@ -39,7 +44,8 @@ fn rows_of(
     named: &Option<Items<Name>>,
     tuples: &Items<Tuple>,
 ) -> Result<Rows, NoMemory>
-    ensures { IfOk result (λ rows. rows ≡ map (row_of columns.now named.now) tuples.now) }
+    ensures same { IfOk result (λ rows. rows ≡ map (row_of columns.now named.now) tuples.now) }
+    ensures values { OnOk result (AllByRecursion TupleHasValues tuples.now) }
 {
     let mut rows = Rows::new(alloc);
     for tuple in tuples.as_slice() {
@@ -54,13 +60,24 @@ fn row_of(
     named: &Option<Items<Name>>,
     tuple: &Tuple,
 ) -> Result<Row, NoMemory>
-    ensures { IfOk result (λ row. row ≡ row_of columns.now named.now tuple.now) }
+    ensures same { IfOk result (λ row. row ≡ row_of columns.now named.now tuple.now) }
+    ensures values { OnOk result (TupleHasValues tuple.now) }
 {
+    prove_literals(tuple.values.as_slice());
     let mut row = Row::new(alloc);
     for (at, _column) in columns.iter().enumerate() {
         row.push(value_from(tuple.values.as_slice(), source(columns, named, at))?)?;
     }
     Ok(row)
+}
+
+// That the literals are values, which a proof knows only of what the code reads. It does nothing else.
+fn prove_literals(literals: &[Literal])
+    ensures { AllByRecursion LiteralHasValue literals.now }
+{
+    for literal in literals {
+        prove_value(&literal.value);
+    }
 }
 
 // The place in the tuples of the literals for this column.
@@ -116,7 +133,9 @@ pub fn update_of(
     filter: &Option<Cond>,
 ) -> Result<Edit, NoMemory>
     requires { length table.now.columns ≤ 256 }
-    ensures { IfOk result (λ edit. edit ≡ update_of number table.now sets.now filter.now) }
+    ensures same { IfOk result (λ edit. edit ≡ update_of number table.now sets.now filter.now) }
+    ensures values { OnOk result (AllByRecursion SetHasValues sets.now) }
+    ensures filter_values { OnOk result (AreValues (filter_values filter.now)) }
 {
     let scope = scope_in(alloc, table)?;
     let sets = sets_of(alloc, &scope, table, sets)?;
@@ -136,7 +155,8 @@ fn sets_of(
 ) -> Result<Items<SetColumn>, NoMemory>
     requires scope { scope.now ≡ scope_in table.now }
     requires columns { length table.now.columns ≤ 256 }
-    ensures { IfOk result (λ bound. bound ≡ map (set_of table.now) sets.now) }
+    ensures same { IfOk result (λ bound. bound ≡ map (set_of table.now) sets.now) }
+    ensures values { OnOk result (AllByRecursion SetHasValues sets.now) }
 {
     let mut bound = Items::new(alloc);
     for set in sets {
@@ -153,7 +173,8 @@ fn set_of(
 ) -> Result<SetColumn, NoMemory>
     requires scope { scope.now ≡ scope_in table.now }
     requires columns { length table.now.columns ≤ 256 }
-    ensures { IfOk result (λ bound. bound ≡ set_of table.now set.now) }
+    ensures same { IfOk result (λ bound. bound ≡ set_of table.now set.now) }
+    ensures values { OnOk result (SetHasValues set.now) }
 {
     let value = bound_expression(alloc, scope, &set.value)?;
     Ok(SetColumn {
@@ -180,7 +201,8 @@ pub fn delete_of(
     filter: &Option<Cond>,
 ) -> Result<Edit, NoMemory>
     requires { length table.now.columns ≤ 256 }
-    ensures { IfOk result (λ edit. edit ≡ delete_of number table.now filter.now) }
+    ensures same { IfOk result (λ edit. edit ≡ delete_of number table.now filter.now) }
+    ensures values { OnOk result (AreValues (filter_values filter.now)) }
 {
     let scope = scope_in(alloc, table)?;
     let filter = bound_filter(alloc, &scope, filter)?;

@@ -1,10 +1,13 @@
 //! A SELECT by places.
 
 ghost use Rattle.std.specs.Prelude.{◌≡◌, ◌≤◌, ◌<◌, ◌+◌, [], ◌∷◌, ◌++◌, length, map, take, position, IfOk, OnOk};
+ghost use Rattle.std.specs.List.{AllByRecursion};
+ghost use Rattle.tl_values.specs.Key.{AreValues};
 ghost use Rattle.tl_scope.specs.Scope.{same, scope_of};
-ghost use Rattle.tl_bind.specs.Condition.{bound_filter};
+ghost use Rattle.tl_bind.specs.Condition.{bound_filter, filter_values};
 ghost use Rattle.tl_bind.specs.Place.{columns_in, place_of};
 ghost use Rattle.tl_bind.specs.Select.{by_of, columns_from, item_output, joins_from, number_or_zero, output_of, outputs_of, printed_place, query_of, sort_of, table_number};
+ghost use Rattle.tl_bind.specs.Values.{FormHasValues, ItemHasValues, ItemsHaveValues, JoinHasValues};
 
 use crate::condition::bound_filter;
 use crate::expression::bound_expression;
@@ -29,7 +32,10 @@ pub fn query_of(
 ) -> Result<Query, NoMemory>
     requires tables { length catalog.now.tables ≤ 256 }
     requires columns { length (columns_in (scope_of catalog.now from.now)) ≤ 256 }
-    ensures { IfOk result (λ query. query ≡ query_of catalog.now items.now from.now filter.now group.now order.now limit) }
+    ensures same { IfOk result (λ query. query ≡ query_of catalog.now items.now from.now filter.now group.now order.now limit) }
+    ensures items { OnOk result (ItemsHaveValues items.now) }
+    ensures joins { OnOk result (AllByRecursion JoinHasValues from.now) }
+    ensures filter { OnOk result (AreValues (filter_values filter.now)) }
 {
     let joins = joins_of(alloc, catalog, from)?;
     let scope = scope_of(alloc, catalog, from)?;
@@ -50,7 +56,8 @@ pub fn query_of(
 fn joins_of(alloc: Global, catalog: &Catalog, from: &[FromItem]) -> Result<Items<Join>, NoMemory>
     requires tables { length catalog.now.tables ≤ 256 }
     requires columns { length (columns_in (scope_of catalog.now from.now)) ≤ 256 }
-    ensures { IfOk result (λ joins. joins ≡ joins_from catalog.now (scope_of catalog.now from.now) 0 from.now) }
+    ensures same { IfOk result (λ joins. joins ≡ joins_from catalog.now (scope_of catalog.now from.now) 0 from.now) }
+    ensures values { OnOk result (AllByRecursion JoinHasValues from.now) }
 {
     let mut scope = Scope::new(alloc);
     let mut joins = Items::new(alloc);
@@ -69,7 +76,8 @@ fn join_of(
 ) -> Result<Join, NoMemory>
     requires tables { length catalog.now.tables ≤ 256 }
     requires columns { length (columns_in scope.now) ≤ 256 }
-    ensures { IfOk result (λ join. join ≡ record { table = table_number catalog.now item.now.table.text; on = bound_filter scope.now item.now.on }) }
+    ensures same { IfOk result (λ join. join ≡ record { table = table_number catalog.now item.now.table.text; on = bound_filter scope.now item.now.on }) }
+    ensures values { OnOk result (JoinHasValues item.now) }
 {
     let on = bound_filter(alloc, scope, &item.on)?;
     Ok(Join {
@@ -116,7 +124,8 @@ fn outputs_of(
     items: &Option<Items<SelectItem>>,
 ) -> Result<Items<Output>, NoMemory>
     requires { length (columns_in scope.now) ≤ 256 }
-    ensures { IfOk result (λ outputs. outputs ≡ outputs_of scope.now items.now) }
+    ensures same { IfOk result (λ outputs. outputs ≡ outputs_of scope.now items.now) }
+    ensures values { OnOk result (ItemsHaveValues items.now) }
 {
     match items {
         Some(items) => item_outputs(alloc, scope, items),
@@ -130,7 +139,8 @@ fn item_outputs(
     items: &Items<SelectItem>,
 ) -> Result<Items<Output>, NoMemory>
     requires { length (columns_in scope.now) ≤ 256 }
-    ensures { IfOk result (λ outputs. outputs ≡ map (item_output scope.now) items.now) }
+    ensures same { IfOk result (λ outputs. outputs ≡ map (item_output scope.now) items.now) }
+    ensures values { OnOk result (AllByRecursion ItemHasValues items.now) }
 {
     let mut outputs = Items::new(alloc);
     for item in items.as_slice() {
@@ -141,7 +151,8 @@ fn item_outputs(
 
 fn output_of(alloc: Global, scope: &Scope<'_>, form: &SelectForm) -> Result<Output, NoMemory>
     requires { length (columns_in scope.now) ≤ 256 }
-    ensures { IfOk result (λ output. output ≡ output_of scope.now form.now) }
+    ensures same { IfOk result (λ output. output ≡ output_of scope.now form.now) }
+    ensures values { OnOk result (FormHasValues form.now) }
 {
     match form {
         SelectForm::Expr(expression) => Ok(Output::Expression(bound_expression(

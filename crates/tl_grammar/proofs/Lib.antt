@@ -7,7 +7,9 @@ pub mod Deeper
 pub mod Depth
 pub mod Exact
 pub mod Examples
+pub mod Few
 pub mod Forms
+pub mod Gives
 pub mod GoesOn
 pub mod Leaves
 pub mod Placed
@@ -17,4 +19,5 @@ pub mod Rules
 pub mod Seeks
 pub mod Sets
 pub mod Theorem
+pub mod Whole
 pub mod Written

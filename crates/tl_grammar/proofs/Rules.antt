@@ -35,7 +35,7 @@ use Rattle.tl_grammar.proofs.Forms.{Alone, Asked, Begun, Deep, Full, Inner, Law,
 use Rattle.tl_grammar.proofs.Leaves.{comparison_law, comparisons, constant_law, constants, name_law, negative_number_law, node_law, number_law, order_number_law, plus_or_minus_law, positive_law, sign_begins, sign_law, sums, text_law, type_law, word_begins, word_law}
 
 -- what rules are written with
-optional_law : {X : Type 0} {k : Asked} {F G : Form X} {first more : List ℕ} → Begun k F G first more → Law k (optional F) (optional G) (first ++ []) (more ++ first) true
+pub optional_law : {X : Type 0} {k : Asked} {F G : Form X} {first more : List ℕ} → Begun k F G first more → Law k (optional F) (optional G) (first ++ []) (more ++ first) true
 unfolding optional
 optional_law {X} {k} {F} {G} {first} {more} p =
     let q = begun p (λ x. done (Some x)) (apart_none more) in
@@ -51,7 +51,7 @@ list_or_none_law : {X : Type 0} {k : Asked} {F G : Form (List X)} {first more : 
 unfolding list_or_none
 list_or_none_law {X} {k} {F} {G} {first} {more} p = or_none p.inner (done []) (apart_none first)
 
-comma_law : {X : Type 0} {k : Asked} {F G : Form X} {first more : List ℕ} → Begun k F G first more → Begun k (comma F) (comma G) (of_sign s.Comma ∷ []) more
+pub comma_law : {X : Type 0} {k : Asked} {F G : Form X} {first more : List ℕ} → Begun k F G first more → Begun k (comma F) (comma G) (of_sign s.Comma ∷ []) more
 unfolding comma
 comma_law p = begun (sign_law s.Comma) (λ at. last p) refl
 
@@ -303,7 +303,7 @@ unfolding where_form
 where_law d = begun (word_law w.Where) (λ at. last (cond_law (nested d) (nested (suc d)) (nested_law d))) refl
 
 -- CREATE
-names_law : {k : Asked} → Begun k names names (of_sign s.Open ∷ []) []
+pub names_law : {k : Asked} → Begun k names names (of_sign s.Open ∷ []) []
 unfolding names
 names_law = in_brackets_law (list_law name_law refl) refl
 
@@ -423,7 +423,7 @@ unfolding create
 create_law = begun (word_law w.Create) (λ at. last (or create_table_law create_index_law refl)) refl
 
 -- INSERT, UPDATE, DELETE
-tuple_law : {k : Asked} → Begun k tuple tuple (of_sign s.Open ∷ []) []
+pub tuple_law : {k : Asked} → Begun k tuple tuple (of_sign s.Open ∷ []) []
 unfolding tuple
 tuple_law = begun (sign_law s.Open) (λ at. next (list_law literal_law refl) (λ values. next (sign_law s.Close) (λ end. done (record { at = at; values = values })) refl) refl) refl
 

@@ -1,7 +1,9 @@
 pub mod Classes
+pub mod Few
 pub mod Form
 pub mod Grammar
 pub mod Law
 pub mod Pick
 pub mod Spelling
 pub mod Token
+pub mod Whole

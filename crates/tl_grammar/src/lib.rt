@@ -15,7 +15,7 @@ mod token;
 pub use condition::Cond;
 pub use expression::{Expr, Operator, Step};
 pub use fault::{Expected, Fault, ParseFault};
-pub use law::parsed_exactly;
+pub use law::{parsed_exactly, statements_are_whole, tuples_are_few};
 pub use name::{ColumnName, Name};
 pub use operand::{Literal, Operand};
 pub use select::{FromItem, OrderBy, OrderItem, SelectForm, SelectItem};

@@ -103,9 +103,9 @@ fn greatest(before: Before) -> u128
 /// Above every number that may stand anywhere.
 const LIMIT: u128 = 9_223_372_036_854_775_809;
 
-/// The number that the digits stand for, or the limit where that is less.
+/// The number that these decimal digits stand for, or 2^63 + 1 where that is less.
 #[tactic(auto, using(crate::proofs::Digits::limited_steps))]
-fn limited_value(digits: &[u8]) -> u128
+pub fn limited_value(digits: &[u8]) -> u128
     requires { AllDigits 10 digits.now }
     ensures { result ≡ min (digits_value 10 digits.now) 9223372036854775809 }
 {

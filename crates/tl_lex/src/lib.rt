@@ -5,11 +5,10 @@ mod before;
 mod fault;
 mod front;
 mod lexer;
-#[cfg(test)]
-mod tests;
 mod token;
 mod word;
 
 pub use fault::{LexError, LexFault, LexKind};
+pub use front::limited_value;
 pub use lexer::lex;
 pub use token::{Token, TokenKind, Tokens};

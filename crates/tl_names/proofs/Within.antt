@@ -42,7 +42,7 @@ columns_few catalog (item ∷ items) within =
     omega (arith, length-append (columns_named catalog item.table.text) (columns_in (scope_of catalog items)), named_few catalog item.table.text within, columns_few catalog items within)
 
 -- there are four FROM items at most
-items_few : (catalog : Catalog) (scope : List Source) (i : ℕ) (from : List FromItem) → i ≤ 4 → each_from (from_faults catalog scope) i from ≡ [] → i + length from ≤ 4
+pub items_few : (catalog : Catalog) (scope : List Source) (i : ℕ) (from : List FromItem) → i ≤ 4 → each_from (from_faults catalog scope) i from ≡ [] → i + length from ≤ 4
 items_few catalog scope i [] le none = omega arith
 items_few catalog scope i (item ∷ items) le none =
     let here = both_empty (from_faults catalog scope i item) (each_from (from_faults catalog scope) (i + 1) items) none in
@@ -72,7 +72,7 @@ pub numbered_few : (catalog : Catalog) (n : ℕ) (t : Table) → IsWithin catalo
 numbered_few catalog n t within e = let few = at_few catalog.tables n t within.columns e in omega (arith, few)
 
 -- a table has 32 columns at most
-forms_few : (i : ℕ) (columns : List ColumnForm) → i ≤ 32 → each_from column_form_faults i columns ≡ [] → i + length columns ≤ 32
+pub forms_few : (i : ℕ) (columns : List ColumnForm) → i ≤ 32 → each_from column_form_faults i columns ≡ [] → i + length columns ≤ 32
 forms_few i [] le none = omega arith
 forms_few i (c ∷ cs) le none =
     let here = both_empty (column_form_faults i c) (each_from column_form_faults (i + 1) cs) none in

@@ -1,10 +1,11 @@
 //! Statements bound to a catalog.
 
-ghost use Rattle.std.specs.Prelude.{◌≡◌, [], length, ◌≤◌, false, IfOk, IfSome};
+ghost use Rattle.std.specs.Prelude.{◌≡◌, [], length, ◌≤◌, false, IfOk, IfSome, OnOk};
 ghost use Rattle.std.specs.Option.{option_copied};
 ghost use Rattle.tl_scope.specs.Statement.{statement_faults};
 ghost use Rattle.tl_scope.specs.Scope.{scope_of, table_named};
 ghost use Rattle.tl_bind.specs.Place.{columns_in};
+ghost use Rattle.tl_bind.specs.Values.{HasValues};
 ghost use Rattle.tl_names.specs.Bind.{Binds, IsWithin, bound_of, is_create};
 
 use crate::error::{BindError, refusal};
@@ -20,7 +21,8 @@ use tl_scope::{statement_fault, table_named};
 pub fn bind(alloc: Global, catalog: &Catalog, statement: &Statement) -> Result<Bound, BindError>
     requires within { IsWithin catalog.now }
     requires statement { is_create statement.now ≡ false }
-    ensures { Binds result (statement_faults catalog.now statement.now) (bound_of catalog.now statement.now) }
+    ensures bound { Binds result (statement_faults catalog.now statement.now) (bound_of catalog.now statement.now) }
+    ensures values { OnOk result (HasValues statement.now) }
 {
     match statement_fault(alloc, catalog, statement)? {
         Some(fault) => Err(refusal(fault)),
@@ -31,7 +33,8 @@ pub fn bind(alloc: Global, catalog: &Catalog, statement: &Statement) -> Result<B
 fn bound_of(alloc: Global, catalog: &Catalog, statement: &Statement) -> Result<Bound, NoMemory>
     requires within { IsWithin catalog.now }
     requires faults { statement_faults catalog.now statement.now ≡ [] }
-    ensures { IfOk result (λ bound. bound ≡ bound_of catalog.now statement.now) }
+    ensures same { IfOk result (λ bound. bound ≡ bound_of catalog.now statement.now) }
+    ensures values { OnOk result (HasValues statement.now) }
 {
     match statement {
         Statement::CreateTable { .. } | Statement::CreateIndex { .. } | Statement::Begin => {

@@ -3,17 +3,37 @@
 ghost use Rattle.std.specs.Prelude.{◌≡◌, ◌<◌};
 ghost use Rattle.tl_scope.specs.Fault.{earliest, fault_if, least, rank, weight};
 
+use thiserror::Error;
+
 /// Why a statement isn't bound. At one place the kind that stands first here comes.
-#[derive(Clone, Copy, Debug, PartialEq, Eq)]
+#[derive(Clone, Copy, Debug, PartialEq, Eq, Error)]
 pub enum BindKind {
+    /// No table has the name.
+    #[error("UnknownTable")]
     UnknownTable,
+    /// No column has the name, among those that may stand there.
+    #[error("UnknownColumn")]
     UnknownColumn,
+    /// Two FROM items have a column of the name.
+    #[error("Ambiguous")]
     Ambiguous,
+    /// A value or column is of another kind than the one that has to stand there.
+    #[error("WrongType")]
     WrongType,
+    /// SET changes a column of the primary key.
+    #[error("KeyChange")]
     KeyChange,
+    /// A column outside an aggregate is none of GROUP BY.
+    #[error("Grouping")]
     Grouping,
+    /// A name is given twice where names have to differ.
+    #[error("Twice")]
     Twice,
+    /// A table has no primary key, or two.
+    #[error("NoKey")]
     NoKey,
+    /// More tables, columns, indexes or FROM items than there may be.
+    #[error("TooMany")]
     TooMany,
 }
 

@@ -2,7 +2,8 @@ use Rattle.std.proofs.Common.{List, ◌+◌, drop, length, ap, ◌∙◌, arith}
 use Rattle.tl_scope.specs.Scope.{Source, scope_of, source_of}
 use Rattle.tl_scope.proofs.Scopes.{scope_longer, scope_next, scope_there}
 use Rattle.tl_bind.specs.Place.{columns_in}
-use Rattle.tl_bind.proofs.Lists.{joins_next}
+use Rattle.tl_bind.specs.Values.{JoinHasValues}
+use Rattle.tl_bind.proofs.Lists.{all_next, joins_next}
 use Rattle.tl_bind.proofs.Places.{front_is_fewer}
 use Rattle.tl_bind.proofs.select.joins_of.Goals as goal
 
@@ -30,5 +31,6 @@ loop-item-preserved c =
     record {
       scope = whole;
       length = longer;
-      joins = joins_next catalog (scope_of catalog from) now from l.joins c.push.new.self i item c.in_ok-join_of.field-0 c.loop-item-test.true c.item-item.is there c.in_ok-join_of.ensures c.in_ok-push.ensures.ok ∙ l.invariant.joins;
+      joins = joins_next catalog (scope_of catalog from) now from l.joins c.push.new.self i item c.in_ok-join_of.field-0 c.loop-item-test.true c.item-item.is there c.in_ok-join_of.ensures.same c.in_ok-push.ensures.ok ∙ l.invariant.joins;
+      values = all_next JoinHasValues from i item c.loop-item-test.true c.item-item.is l.invariant.values c.in_ok-join_of.ensures.values;
     }

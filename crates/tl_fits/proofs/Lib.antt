@@ -1,0 +1,13 @@
+mod Bound
+mod Catalogs
+mod Changes
+mod Created
+mod Defined
+mod Expressions
+mod Groups
+mod Joins
+mod Lists
+mod Names
+mod Outputs
+mod Rows
+mod Selects

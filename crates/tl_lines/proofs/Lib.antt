@@ -1,0 +1,5 @@
+mod Blanks
+mod Digits
+mod Items
+mod Lines
+mod Ranges

@@ -1,0 +1,5 @@
+mod Counts
+mod Found
+mod Homes
+mod Openings
+mod Stored

@@ -1,0 +1,10 @@
+use Rattle.std.proofs.Common.{sym, ◌∙◌}
+use Rattle.tl_grammar.specs.Form.{either}
+use Rattle.tl_grammar.specs.Grammar.{begin, commit, delete, recover, rollback, select, update, word}
+use Rattle.tl_tokens.specs.Seen.{seen}
+use Rattle.tl_tokens.proofs.Choices.{reads_second}
+use Rattle.tl_parse.proofs.statement.update_or_later.Goals as goal
+
+pub returns : goal.returns
+unfolding update word
+returns c = reads_second c.delete_or_later.result (update 64) (either (delete 64) (either (select 64) (either begin (either commit (either rollback recover))))) (seen c.args.at) c.missing.result (sym c.is_word.ensures ∙ c.if-is_word.false) c.missing.ensures c.delete_or_later.ensures

@@ -1,0 +1,10 @@
+use Rattle.std.proofs.Common.{◌≡◌, [], ◌∷◌, ◌-◌, length}
+use Rattle.tl_grammar.specs.Form.{read_row}
+use Rattle.tl_grammar.specs.Grammar.{behind, comma, name}
+use Rattle.tl_tokens.specs.Seen.{seen}
+use Rattle.tl_terms.proofs.operand.more_names.Given as goal
+
+abbrev pub invariant-loop-i : goal.invariant-loop-i
+invariant-loop-i l =
+    read_row behind (λ x. comma name) (l.i-end - l.i) l.found (seen l.here)
+    ≡ read_row behind (λ x. comma name) (length (seen l.fn.at).rest) (l.fn.first ∷ []) (seen l.fn.at)

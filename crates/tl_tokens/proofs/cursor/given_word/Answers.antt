@@ -1,0 +1,10 @@
+use Rattle.std.proofs.Common.{Ok, false, refl, sym, true, ◌∙◌}
+use Rattle.tl_grammar.specs.Form.{◌>>=◌, pure}
+use Rattle.tl_grammar.specs.Grammar.{given, word}
+use Rattle.tl_tokens.specs.Seen.{seen}
+use Rattle.tl_tokens.proofs.Choices.{reads_second}
+use Rattle.tl_tokens.proofs.cursor.given_word.Goals as goal
+
+pub returns : goal.returns
+unfolding given word
+returns c = reads_second (Ok (false, c.missing.result)) ((word c.args.x) >>= (λ x. pure true)) (pure false) (seen c.args.at) c.missing.result (sym c.is_word.ensures ∙ c.if-is_word.false) c.missing.ensures refl

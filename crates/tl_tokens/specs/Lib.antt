@@ -1,0 +1,4 @@
+pub mod Lexemes
+pub mod Seen
+pub mod Tables
+pub mod Tokens
